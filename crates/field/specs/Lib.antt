@@ -1,0 +1,5 @@
+pub mod Laws
+pub mod Polynomials
+pub mod Tables
+pub mod Residues
+pub mod Pairs

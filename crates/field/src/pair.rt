@@ -1,0 +1,6 @@
+// placeholder
+#[derive(Clone, Copy)]
+pub struct Pair<E> {
+    pub(crate) low: E,
+    pub(crate) high: E,
+}
