@@ -1,3 +1,4 @@
 pub mod Modular
 pub mod Fields
 pub mod Tables
+pub mod Pairs
