@@ -1,4 +1,5 @@
 pub mod Modular
 pub mod Fields
-pub mod Tables
+pub mod Computed
 pub mod Pairs
+pub mod Outside

@@ -3,3 +3,4 @@ pub mod Polynomials
 pub mod Tables
 pub mod Residues
 pub mod Pairs
+pub mod Figures

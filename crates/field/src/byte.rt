@@ -1,5 +1,5 @@
-// The byte field: 256 elements, the polynomials modulo X^8 + X^4 + X^3 + X^2 + 1, which is 285 by its bits. X, whose code is 2, is a
-// generator, and ν is 32.
+// The byte field: 256 elements, the polynomials modulo X^8 + X^4 + X^3 + X^2 + 1, which is 285 by its bits. X, whose
+// code is 2, is a generator, and ν is 32.
 ghost use Rattle.field.specs.Residues.{code-of, from-code};
 
 use crate::entries::log_entry;
@@ -7,6 +7,9 @@ use crate::entries::power_entry;
 use crate::residue::Residue;
 use crate::tabled::Tabled;
 use crate::tabled::Tables;
+
+const BITS: u32 = 8;
+const NU: u16 = 32;
 
 // Entry k is the logarithm of k + 1: X to it is the polynomial k + 1.
 const LOGS: [u8; 255] = [
@@ -65,11 +68,11 @@ pub impl Tables for ByteTables as ByteModulus {
     ghost element = { from-code 8 };
 
     fn bits() -> u32 {
-        8
+        BITS
     }
 
     fn nu() -> u16 {
-        32
+        NU
     }
 
     fn element(n: u16) -> Residue<8> {

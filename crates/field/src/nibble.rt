@@ -8,6 +8,9 @@ use crate::residue::Residue;
 use crate::tabled::Tabled;
 use crate::tabled::Tables;
 
+const BITS: u32 = 4;
+const NU: u16 = 8;
+
 // Entry k is the logarithm of k + 1: X to it is the polynomial k + 1.
 const LOGS: [u8; 15] = [
     0, 1, 4, 2, 8, 5, 10, 3, 14, 9, 7, 6, 13, 11, 12,
@@ -32,11 +35,11 @@ pub impl Tables for NibbleTables as NibbleModulus {
     ghost element = { from-code 4 };
 
     fn bits() -> u32 {
-        4
+        BITS
     }
 
     fn nu() -> u16 {
-        8
+        NU
     }
 
     fn element(n: u16) -> Residue<4> {

@@ -6,7 +6,6 @@ ghost use Rattle.field.specs.Polynomials.{power};
 ghost use Rattle.field.specs.Residues.{Coded, Modulus, Rootless, modulo};
 ghost use Rattle.std.specs.Options.{Cases as BySome};
 
-use crate::interface::Extensible;
 use crate::interface::Field;
 
 // The tables of a modulus p of degree m, of which X is a generator, and the elements modulo p.
@@ -56,13 +55,13 @@ pub struct Tabled<T> {
     tables: T,
 }
 
-fn sum<T: Tables>(a: T::Elem, b: T::Elem) -> T::Elem
+pub(crate) fn sum<T: Tables>(a: T::Elem, b: T::Elem) -> T::Elem
     ensures { λ r. ⌜ r ≡ modulo (T·Tables .m) (T·Tables .p) (T·Tables .code) (T·Tables .element) .add a b ⌝ }
 {
     T::element(T::code(a) as u16 ^ T::code(b) as u16)
 }
 
-fn product<T: Tables>(a: T::Elem, b: T::Elem) -> T::Elem
+pub(crate) fn product<T: Tables>(a: T::Elem, b: T::Elem) -> T::Elem
     ensures { λ r. ⌜ r ≡ modulo (T·Tables .m) (T·Tables .p) (T·Tables .code) (T·Tables .element) .mul a b ⌝ }
 {
     let x = T::code(a);
@@ -73,13 +72,13 @@ fn product<T: Tables>(a: T::Elem, b: T::Elem) -> T::Elem
     T::element(T::power(T::log(x) as usize + T::log(y) as usize) as u16)
 }
 
-fn same<T: Tables>(a: T::Elem, b: T::Elem) -> bool
+pub(crate) fn same<T: Tables>(a: T::Elem, b: T::Elem) -> bool
     ensures { λ r. ⌜ (r ≡ true → a ≡ b) × (a ≡ b → r ≡ true) ⌝ }
 {
     T::code(a) == T::code(b)
 }
 
-fn inverted<T: Tables>(a: T::Elem) -> Option<T::Elem>
+pub(crate) fn inverted<T: Tables>(a: T::Elem) -> Option<T::Elem>
     ensures { λ r. ⌜ BySome r (a ≡ T·Tables .element 0) (λ i. (i ≡ modulo (T·Tables .m) (T·Tables .p) (T·Tables .code) (T·Tables .element) .inv a) × (a ≡ T·Tables .element 0 → ⊥)) ⌝ }
 {
     let x = T::code(a);
@@ -105,53 +104,6 @@ pub impl<T: Tables> Field for Tabled<T> as TabledField {
 
     fn one() -> T::Elem {
         T::element(1)
-    }
-
-    fn add(a: T::Elem, b: T::Elem) -> T::Elem {
-        sum::<T>(a, b)
-    }
-
-    fn mul(a: T::Elem, b: T::Elem) -> T::Elem {
-        product::<T>(a, b)
-    }
-
-    fn equal(a: T::Elem, b: T::Elem) -> bool {
-        same::<T>(a, b)
-    }
-
-    fn inverse(a: T::Elem) -> Option<T::Elem> {
-        inverted::<T>(a)
-    }
-
-    fn code(a: T::Elem) -> u16 {
-        u16::from(T::code(a))
-    }
-
-    fn element(n: u16) -> T::Elem {
-        T::element(n)
-    }
-}
-
-pub impl<T: Tables> Extensible for Tabled<T> as TabledExtensible {
-    type Elem = T::Elem;
-
-    ghost ops = { modulo (T·Tables .m) (T·Tables .p) (T·Tables .code) (T·Tables .element) };
-    ghost nu = { T·Tables .element (T·Tables .nu) };
-
-    fn bits() -> u32 {
-        T::bits()
-    }
-
-    fn zero() -> T::Elem {
-        T::element(0)
-    }
-
-    fn one() -> T::Elem {
-        T::element(1)
-    }
-
-    fn nu() -> T::Elem {
-        T::element(T::nu())
     }
 
     fn add(a: T::Elem, b: T::Elem) -> T::Elem {

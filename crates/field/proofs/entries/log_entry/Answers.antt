@@ -1,4 +1,4 @@
-use Rattle.field.proofs.Tables.{log-is, log-below}
+use Rattle.field.proofs.Computed.{log-is, log-below}
 use Rattle.field.proofs.entries.log_entry.Needs as need
 
 pub returns : need.returns

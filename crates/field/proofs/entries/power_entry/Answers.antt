@@ -1,4 +1,4 @@
-use Rattle.field.proofs.Tables.{power-at}
+use Rattle.field.proofs.Computed.{power-at}
 use Rattle.field.proofs.entries.power_entry.Needs as need
 
 pub returns : need.returns

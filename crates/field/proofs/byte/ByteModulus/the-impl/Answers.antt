@@ -3,7 +3,7 @@ use Prim.Native.Nat.{_^_, _-_}
 use lib.Dec.{lit<, lit≤}
 use Rattle.field.specs.Polynomials.{carryless, remainder, product, squares, inverse, power}
 use Rattle.field.proofs.Fields.{coded}
-use Rattle.field.proofs.Tables as test
+use Rattle.field.proofs.Computed as test
 use Rattle.field.proofs.byte.ByteModulus.the-impl.Needs as need
 
 pub coded-law : need.coded-law

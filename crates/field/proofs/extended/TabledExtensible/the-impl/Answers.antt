@@ -1,5 +1,5 @@
 use Rattle.field.proofs.Fields.{laws, no-root}
-use Rattle.field.proofs.tabled.TabledExtensible.the-impl.Needs as need
+use Rattle.field.proofs.extended.TabledExtensible.the-impl.Needs as need
 
 pub laws-law : need.laws-law
 laws-law g = laws (g .T·Tables·met .modulus) (g .T·Tables·met .coded)
