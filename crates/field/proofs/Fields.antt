@@ -128,8 +128,13 @@ module _ {m p : ℕ} (t : Modulus m p) where
       ∙ ring.swap m p (t .degree) a i b ha ∙ ap (λ (x : ℕ). product m p x i) e ∙ unit i (inverse-below a ha)
 
   -- where X to the power of n is 1, the inverse of X to the power of l is X to that of n - l
-  pub power-inverse : (n a l : ℕ) → power m p n ≡ 1 → 0 < a → a < 2 ^ m → power m p l ≡ a → l < n → power m p (n - l) ≡ inverse m p a
-  power-inverse n a l round some ha e h =
-      let whole : l + (n - l) ≡ n = omega arith in
-      unique a (power m p (n - l)) some ha (power-below (n - l))
-        (ap (λ (x : ℕ). product m p x (power m p (n - l))) (sym e) ∙ powers-product l (n - l) ∙ ap (power m p) whole ∙ round)
+  pub power-inverse : (n l : ℕ) → power m p n ≡ 1 → l < n → power m p (n - l) ≡ inverse m p (power m p l)
+  power-inverse n l round h = unique (power m p l) (power m p (n - l)) (some (power m p l) refl) (power-below l) (power-below (n - l)) whole
+    where
+      whole : product m p (power m p l) (power m p (n - l)) ≡ 1
+      whole = let e : l + (n - l) ≡ n = omega arith in powers-product l (n - l) ∙ ap (power m p) e ∙ round
+
+      some : (a : ℕ) → power m p l ≡ a → 0 < a
+      some zero e =
+          let z : _≡_ {A = ℕ} 0 1 = sym (zero-product (power m p (n - l))) ∙ ap (λ (x : ℕ). product m p x (power m p (n - l))) (sym e) ∙ whole in omega arith
+      some (suc a) e = zero-lt-suc a

@@ -4,6 +4,7 @@ ghost use Rattle.field.specs.Residues.{code-of, from-code};
 
 use crate::entries::log_entry;
 use crate::entries::power_entry;
+use crate::polynomial::residue_of;
 use crate::residue::Residue;
 use crate::tabled::Tabled;
 use crate::tabled::Tables;
@@ -76,7 +77,7 @@ pub impl Tables for ByteTables as ByteModulus {
     }
 
     fn element(n: u16) -> Residue<8> {
-        Residue { code: (n % 256) as u8 }
+        residue_of((n % 256) as u8)
     }
 
     fn code(a: Residue<8>) -> u8 {

@@ -7,6 +7,7 @@ mod interface;
 mod known;
 mod nibble;
 mod pair;
+mod polynomial;
 mod residue;
 mod tabled;
 
@@ -17,6 +18,7 @@ pub use extended::TabledExtensible;
 pub use interface::Extensible;
 pub use interface::Field;
 pub use known::figures;
+pub use known::figures_stand;
 pub use nibble::NibbleModulus;
 pub use nibble::NibbleTables;
 pub use nibble::Nibbles;

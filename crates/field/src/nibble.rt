@@ -4,6 +4,7 @@ ghost use Rattle.field.specs.Residues.{code-of, from-code};
 
 use crate::entries::log_entry;
 use crate::entries::power_entry;
+use crate::polynomial::residue_of;
 use crate::residue::Residue;
 use crate::tabled::Tabled;
 use crate::tabled::Tables;
@@ -43,7 +44,7 @@ pub impl Tables for NibbleTables as NibbleModulus {
     }
 
     fn element(n: u16) -> Residue<4> {
-        Residue { code: (n % 16) as u8 }
+        residue_of((n % 16) as u8)
     }
 
     fn code(a: Residue<4>) -> u8 {

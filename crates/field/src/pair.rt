@@ -1,5 +1,8 @@
 // The pair field: two elements of a base field kept together, low + high·z, where z·z = z + ν.
-ghost use Rattle.field.specs.Pairs.{pairs};
+ghost use mathlib.Core.Path.{_≡_};
+ghost use Prim.Native.Nat.{ℕ, _+_, _*_, _^_, _≤_};
+ghost use Rattle.field.specs.Pairs.{norm, pairs};
+ghost use Rattle.std.specs.Options.{Cases as BySome};
 
 use crate::interface::Extensible;
 use crate::interface::Field;
@@ -10,6 +13,29 @@ use crate::interface::Field;
 pub struct Pair<E> {
     low: E,
     high: E,
+}
+
+// (low + high·z)·(low + high + high·z), which lies in the base field.
+fn norm_of<B: Extensible>(a: Pair<B::Elem>) -> B::Elem
+    ensures { λ r. ⌜ r ≡ norm (B·Extensible .ops) (B·Extensible .nu) (a .low) (a .high) ⌝ }
+{
+    let both = B::add(a.low, a.high);
+    B::add(B::mul(a.low, both), B::mul(B::nu(), B::mul(a.high, a.high)))
+}
+
+// The inverse of the norm: zero alone has the norm zero, since no y·y + y is ν.
+fn norm_inverse<B: Extensible>(a: Pair<B::Elem>) -> Option<B::Elem>
+    ensures { λ r. ⌜ BySome r (a ≡ pairs (B·Extensible .ops) (B·Extensible .nu) .zero) (λ i. (i ≡ B·Extensible .ops .inv (norm (B·Extensible .ops) (B·Extensible .nu) (a .low) (a .high))) × (a ≡ pairs (B·Extensible .ops) (B·Extensible .nu) .zero → ⊥)) ⌝ }
+{
+    B::inverse(norm_of::<B>(a))
+}
+
+// The code of an element in the place of the high one.
+fn raised<B: Extensible>(a: B::Elem) -> u16
+    ensures value { λ r. ⌜ r ≡ 2 ^ (B·Extensible .ops .bits) * B·Extensible .ops .code a ⌝ }
+    ensures bound { λ r. ⌜ r + 2 ^ (B·Extensible .ops .bits) ≤ 2 ^ 16 ⌝ }
+{
+    B::code(a) << B::bits()
 }
 
 pub impl<B: Extensible> Field for Pair<B> as PairField {
@@ -45,18 +71,15 @@ pub impl<B: Extensible> Field for Pair<B> as PairField {
         B::equal(a.low, b.low) && B::equal(a.high, b.high)
     }
 
-    // (low + high·z)·(low + high + high·z) is the norm, low·(low + high) + ν·high·high, which lies in the base field.
     fn inverse(a: Pair<B::Elem>) -> Option<Pair<B::Elem>> {
-        let both = B::add(a.low, a.high);
-        let norm = B::add(B::mul(a.low, both), B::mul(B::nu(), B::mul(a.high, a.high)));
-        match B::inverse(norm) {
+        match norm_inverse::<B>(a) {
             None => None,
-            Some(i) => Some(Pair { low: B::mul(both, i), high: B::mul(a.high, i) }),
+            Some(i) => Some(Pair { low: B::mul(B::add(a.low, a.high), i), high: B::mul(a.high, i) }),
         }
     }
 
     fn code(a: Pair<B::Elem>) -> u16 {
-        B::code(a.low) + (B::code(a.high) << B::bits())
+        B::code(a.low) + raised::<B>(a.high)
     }
 
     fn element(n: u16) -> Pair<B::Elem> {

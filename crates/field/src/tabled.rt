@@ -2,7 +2,7 @@
 ghost use mathlib.Core.Path.{_≡_};
 ghost use mathlib.Core.Bool.{true};
 ghost use Prim.Native.Nat.{ℕ, _+_, _-_, _<_, _≤_, _^_};
-ghost use Rattle.field.specs.Polynomials.{power};
+ghost use Rattle.field.specs.Polynomials.{product, inverse, power};
 ghost use Rattle.field.specs.Residues.{Coded, Modulus, Rootless, modulo};
 ghost use Rattle.std.specs.Options.{Cases as BySome};
 
@@ -61,6 +61,14 @@ pub(crate) fn sum<T: Tables>(a: T::Elem, b: T::Elem) -> T::Elem
     T::element(T::code(a) as u16 ^ T::code(b) as u16)
 }
 
+// The product of X^i and X^j.
+fn power_product<T: Tables>(i: u8, j: u8) -> u8
+    requires { ⌜ (i < 2 ^ (T·Tables .m) - 1) × (j < 2 ^ (T·Tables .m) - 1) ⌝ }
+    ensures { λ r. ⌜ r ≡ product (T·Tables .m) (T·Tables .p) (power (T·Tables .m) (T·Tables .p) i) (power (T·Tables .m) (T·Tables .p) j) ⌝ }
+{
+    T::power(i as usize + j as usize)
+}
+
 pub(crate) fn product<T: Tables>(a: T::Elem, b: T::Elem) -> T::Elem
     ensures { λ r. ⌜ r ≡ modulo (T·Tables .m) (T·Tables .p) (T·Tables .code) (T·Tables .element) .mul a b ⌝ }
 {
@@ -69,7 +77,7 @@ pub(crate) fn product<T: Tables>(a: T::Elem, b: T::Elem) -> T::Elem
     if x == 0 || y == 0 {
         return T::element(0);
     }
-    T::element(T::power(T::log(x) as usize + T::log(y) as usize) as u16)
+    T::element(power_product::<T>(T::log(x), T::log(y)) as u16)
 }
 
 pub(crate) fn same<T: Tables>(a: T::Elem, b: T::Elem) -> bool
@@ -78,15 +86,23 @@ pub(crate) fn same<T: Tables>(a: T::Elem, b: T::Elem) -> bool
     T::code(a) == T::code(b)
 }
 
+// The inverse of X^i, which is X to the power of 2^m - 1 - i.
+fn power_inverse<T: Tables>(i: u8) -> u8
+    requires { ⌜ i < 2 ^ (T·Tables .m) - 1 ⌝ }
+    ensures { λ r. ⌜ r ≡ inverse (T·Tables .m) (T·Tables .p) (power (T·Tables .m) (T·Tables .p) i) ⌝ }
+{
+    let order = (1 << T::bits()) - 1;
+    T::power(order - i as usize)
+}
+
 pub(crate) fn inverted<T: Tables>(a: T::Elem) -> Option<T::Elem>
     ensures { λ r. ⌜ BySome r (a ≡ T·Tables .element 0) (λ i. (i ≡ modulo (T·Tables .m) (T·Tables .p) (T·Tables .code) (T·Tables .element) .inv a) × (a ≡ T·Tables .element 0 → ⊥)) ⌝ }
 {
-    let x = T::code(a);
-    if x == 0 {
+    if same::<T>(a, T::element(0)) {
         return None;
     }
-    let order = (1 << T::bits()) - 1;
-    Some(T::element(T::power(order - T::log(x) as usize) as u16))
+    let x = T::code(a);
+    Some(T::element(power_inverse::<T>(T::log(x)) as u16))
 }
 
 pub impl<T: Tables> Field for Tabled<T> as TabledField {

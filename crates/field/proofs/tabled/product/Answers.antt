@@ -1,17 +1,9 @@
-use mathlib.Core.Path.{_≡_, sym, ap, ap₂, _∙_}
+use mathlib.Core.Path.{_≡_, sym, ap, _∙_}
 use mathlib.Core.Logic.{⊎-elim}
 use Prim.Native.Nat.{ℕ}
 use Rattle.field.specs.Polynomials.{product}
-use Rattle.field.proofs.Fields.{powers-product, zero-product, product-zero}
+use Rattle.field.proofs.Fields.{zero-product, product-zero}
 use Rattle.field.proofs.tabled.product.Needs as need
-
-pub returns : need.returns
-returns g c =
-    let f = g .T·Tables in
-    c .element-2 .ensures
-    ∙ ap (f .element)
-      (c .power .ensures ∙ sym (powers-product (g .T·Tables·met .modulus) (c .log .result) (c .log-2 .result))
-        ∙ ap₂ (product (f .m) (f .p)) (c .log .ensures .value ∙ c .code-x .ensures) (c .log-2 .ensures .value ∙ c .code-y .ensures))
 
 pub returns-then-x-eq0 : need.returns-then-x-eq0
 returns-then-x-eq0 g c =
