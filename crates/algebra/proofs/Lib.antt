@@ -1,0 +1,10 @@
+pub mod Ring
+pub mod Sum
+pub mod Poly
+pub mod Roots
+pub mod Factors
+pub mod Interpolation
+pub mod Writes
+pub mod Products
+pub mod Solving
+pub mod Combining

@@ -1,0 +1,13 @@
+pub mod Nodes
+pub mod Values
+pub mod Passes
+pub mod Skip
+pub mod Forms
+pub mod Parts
+pub mod Count
+pub mod Pairs
+pub mod Repair
+pub mod Unique
+pub mod Exists
+pub mod Closed
+pub mod Helped

@@ -1,0 +1,6 @@
+pub mod Limits
+pub mod Numbers
+pub mod Making
+pub mod Points
+pub mod Rule
+pub mod Theorems
