@@ -8,3 +8,4 @@ pub mod Writes
 pub mod Products
 pub mod Solving
 pub mod Combining
+pub mod Grids

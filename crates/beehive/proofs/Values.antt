@@ -1,10 +1,11 @@
 -- φ(s)·v as the value of the polynomial v at the point of s, and two polynomials that agree.
 use mathlib.Core.Path.{_≡_, refl, sym, ap, _∙_}
-use Prim.Native.Nat.{ℕ, _<_}
+use Prim.Native.Nat.{ℕ, _+_, _<_}
+use native.Mathlib.Numerals.{add-one}
 use Rattle.field.specs.Laws.{Ops, Laws}
 use Rattle.algebra.specs.Poly.{poly, Apart, Same}
 use Rattle.algebra.proofs.Ring.{ring, mul-comm}
-use Rattle.algebra.proofs.Sum.{sum-cong}
+use Rattle.algebra.proofs.Sum.{sum-cong, sum-none, sum-more}
 use Rattle.algebra.proofs.Poly.{poly-is}
 use Rattle.algebra.proofs.Interpolation.{uniqueness}
 use Rattle.beehive.specs.declared.numbers.Numbers.{Numbers}
@@ -25,3 +26,11 @@ module _ {E : Type 0} {F : Ops E} (L : Laws F) where
     where
       twice : (a b : E) → F .add (F .add a b) b ≡ a
       twice a b = simp (ring, L)
+
+module _ {E : Type 0} (F : Ops E) where
+  -- one more term of a product of vectors
+  pub dot-none : (f v : ℕ → E) → dot F 0 f v ≡ F .zero
+  dot-none f v = sum-none F (λ i. F .mul (f i) (v i))
+
+  pub dot-more : (n : ℕ) (f v : ℕ → E) → dot F (n + 1) f v ≡ F .add (dot F n f v) (F .mul (f n) (v n))
+  dot-more n f v = ap (λ k. dot F k f v) (add-one n) ∙ sum-more F n (λ i. F .mul (f i) (v i))

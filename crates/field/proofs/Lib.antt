@@ -3,3 +3,4 @@ pub mod Fields
 pub mod Computed
 pub mod Pairs
 pub mod Outside
+pub mod Moduli
