@@ -1,7 +1,9 @@
 // The console of the stripe, as far as it stands: whole tasks that say each of their steps.
+mod example;
 mod gateways;
 mod report;
 
+use example::six_boxes;
 use field::ByteModulus;
 use field::Bytes;
 use field::NibbleModulus;
@@ -23,5 +25,5 @@ fn run(rt: &LibcRuntime) -> Result<(), AnyError> {
     batch_record::<Bytes>(rt, "byte", &[72, 101, 97, 116, 33])?;
     batch_record::<Pair<Nibbles>>(rt, "pair over nibble", &[16, 255, 1, 128, 77])?;
     batch_record::<Pair<Bytes>>(rt, "pair over byte", &[256, 65535, 27756, 288, 4095])?;
-    Ok(())
+    six_boxes::<Nibbles>(rt)
 }

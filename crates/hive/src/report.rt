@@ -12,7 +12,7 @@ const LOST: [u16; 2] = [1, 4];
 const ANSWERING: [u16; 5] = [7, 2, 5, 3, 6];
 
 // The numbers, each after a space.
-fn spaced(heap: Global, numbers: &[u16]) -> Result<String, AllocError> {
+pub(crate) fn spaced(heap: Global, numbers: &[u16]) -> Result<String, AllocError> {
     let mut text = String::new(heap);
     for n in numbers {
         text.push_str(format!(heap, " {n}")?.as_str())?;

@@ -1,2 +1,3 @@
+-- The definitions that the promises cite.
 pub mod Denials
 pub mod Checks
