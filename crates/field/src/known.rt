@@ -36,8 +36,11 @@ pub fn figures_stand() -> u8
     0
 }
 
+// One code for each figure.
+pub type Six = [u16; 6];
+
 // Nibble 6·7, byte 2·128, pair over nibble 16·16 and the inverse of 16, pair over byte 256·256 and the inverse of 256.
-pub fn figures() -> [u16; 6]
+pub fn figures() -> Six
     ensures { λ r. ⌜ r ≡ 1 ∷ 29 ∷ 24 ∷ 255 ∷ 288 ∷ 27756 ∷ [] ⌝ }
 {
     let _ = figures_stand();

@@ -70,7 +70,7 @@ fn received<F: Field>(heap: Global, numbers: &Numbers, j: u16) -> Result<Vec<u16
 }
 
 // Prints the blocks, and the segments of the repair of boxes 1 and 2.
-pub fn six_boxes<F: Field>(rt: &LibcRuntime) -> Result<(), AnyError> {
+pub(crate) fn six_boxes<F: Field>(rt: &LibcRuntime) -> Result<(), AnyError> {
     let heap = rt.alloc();
     let Ok(numbers) = Numbers::new(3, 3, 4, 2, 1) else {
         return Err("the numbers are outside the limits".into());

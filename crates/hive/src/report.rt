@@ -21,7 +21,7 @@ pub(crate) fn spaced(heap: Global, numbers: &[u16]) -> Result<String, AllocError
 }
 
 // Spreads a batch record over gateways by one field, and says each step.
-pub fn batch_record<F: Field>(rt: &LibcRuntime, name: &str, batch: &[u16]) -> Result<(), AnyError> {
+pub(crate) fn batch_record<F: Field>(rt: &LibcRuntime, name: &str, batch: &[u16]) -> Result<(), AnyError> {
     let heap = rt.alloc();
     let bits = F::bits();
     println!(rt, "{name} field, {bits} bits a symbol")?;
