@@ -1,5 +1,7 @@
 // The first worked example of the code: six boxes over the nibble field, k = 3, r = 3, d = 4, t = 2, w = 1, from the
 // matrices S, T and Z, and the segments by which boxes 1 and 2 are refilled.
+use crate::gateways::codes;
+use crate::gateways::elements;
 use crate::report::spaced;
 use beehive::Numbers;
 use beehive::first_entry;
@@ -14,22 +16,6 @@ use std::error::AnyError;
 const FREE: [u16; 4] = [1, 0, 0, 0];
 const TIMES_MU: [u16; 4] = [0, 0, 0, 1];
 const SECOND: [u16; 2] = [0, 1];
-
-fn elements<F: Field>(heap: Global, codes: &[u16]) -> Result<Vec<F::Elem>, AnyError> {
-    let mut all = Vec::new(heap);
-    for c in codes {
-        all.push(F::element(*c))?;
-    }
-    Ok(all)
-}
-
-fn codes<F: Field>(heap: Global, elements: &[F::Elem]) -> Result<Vec<u16>, AnyError> {
-    let mut all = Vec::new(heap);
-    for e in elements {
-        all.push(F::code(*e))?;
-    }
-    Ok(all)
-}
 
 // The block of box i, by the code rule.
 fn block<F: Field>(heap: Global, numbers: &Numbers, i: u16) -> Result<Vec<F::Elem>, AnyError> {

@@ -52,7 +52,7 @@ pub impl From<Unsolved> for Trouble as TroubleFromUnsolved {
 }
 
 // The elements with these codes.
-fn elements<F: Field>(heap: Global, codes: &[u16]) -> Result<Vec<F::Elem>, AllocError>
+pub(crate) fn elements<F: Field>(heap: Global, codes: &[u16]) -> Result<Vec<F::Elem>, AllocError>
     ensures { λ r. ⌜ made r (λ v. vec-items v ≡ map (F·Field .ops .element) (now (codes .entry))) ⌝ }
 {
     let mut v = Vec::new(heap);
@@ -63,7 +63,7 @@ fn elements<F: Field>(heap: Global, codes: &[u16]) -> Result<Vec<F::Elem>, Alloc
 }
 
 // The codes of these elements.
-fn codes<F: Field>(heap: Global, elements: &[F::Elem]) -> Result<Vec<u16>, AllocError>
+pub(crate) fn codes<F: Field>(heap: Global, elements: &[F::Elem]) -> Result<Vec<u16>, AllocError>
     ensures { λ r. ⌜ made r (λ v. vec-items v ≡ map (F·Field .ops .code) (now (elements .entry))) ⌝ }
 {
     let mut v = Vec::new(heap);
