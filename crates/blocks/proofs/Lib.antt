@@ -1,0 +1,3 @@
+pub mod Pairing
+pub mod Grids
+pub mod FromBoxes

@@ -1,0 +1,4 @@
+pub mod Cells
+pub mod Elements
+pub mod Formulas
+pub mod Indices

@@ -1,0 +1,4 @@
+pub mod Cells
+pub mod Points
+pub mod Plans
+pub mod Theorems

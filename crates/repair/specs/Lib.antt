@@ -1,0 +1,2 @@
+pub mod Repair
+pub mod Theorems
