@@ -1,7 +1,7 @@
 // The first worked example of the code: six boxes over the nibble field, k = 3, r = 3, d = 4, t = 2, w = 1, from the
 // matrices S, T and Z, and the segments by which boxes 1 and 2 are refilled.
-use crate::gateways::codes;
-use crate::gateways::elements;
+use gateways::codes;
+use gateways::elements;
 use crate::report::spaced;
 use beehive::Numbers;
 use beehive::first_entry;

@@ -1,15 +1,14 @@
 // The console of the stripe, as far as it stands: whole tasks that say each of their steps.
+mod edges;
 mod example;
-mod gateways;
 mod memory;
 mod repaired;
 mod report;
 mod rows;
 mod whole;
 
-#[cfg(test)]
-mod tests;
-
+use edges::large_edges;
+use edges::small_edges;
 use example::six_boxes;
 use field::ByteModulus;
 use field::Bytes;
@@ -38,5 +37,15 @@ fn run(rt: &LibcRuntime) -> Result<(), AnyError> {
     repaired::<Nibbles>(rt, "nibble", &[1, 2, 3, 4, 5, 6, 7, 8, 9, 10, 11, 12, 13, 14, 15, 0])?;
     repaired::<Bytes>(rt, "byte", &[84, 104, 101, 32, 118, 97, 108, 118, 101, 115, 32, 104, 101, 108, 100, 46])?;
     repaired::<Pair<Nibbles>>(rt, "pair over nibble", &[16, 255, 1, 128, 77, 0, 9, 250, 33, 34, 35, 36, 200, 201, 202, 203])?;
-    repaired::<Pair<Bytes>>(rt, "pair over byte", &[256, 65535, 27756, 288, 1, 2, 3, 4, 500, 600, 700, 800, 9000, 10000, 11000, 12000])
+    repaired::<Pair<Bytes>>(rt, "pair over byte", &[256, 65535, 27756, 288, 1, 2, 3, 4, 500, 600, 700, 800, 9000, 10000, 11000, 12000])?;
+    at_the_edges(rt)
+}
+
+// The same task at the edges of the numbers, each line saying only whether it held.
+fn at_the_edges(rt: &LibcRuntime) -> Result<(), AnyError> {
+    rt.println("The same at the edges of the numbers.")?;
+    small_edges::<Nibbles>(rt, "nibble")?;
+    small_edges::<Pair<Bytes>>(rt, "pair over byte")?;
+    large_edges::<Bytes>(rt, "byte")?;
+    large_edges::<Pair<Nibbles>>(rt, "pair over nibble")
 }

@@ -1,6 +1,6 @@
 // What is printed of each task.
-use crate::gateways::Trouble;
-use crate::gateways::spread;
+use gateways::Trouble;
+use gateways::spread;
 use field::Field;
 use std::alloc::AllocError;
 use std::alloc::Global;
