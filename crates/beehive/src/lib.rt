@@ -6,9 +6,11 @@ mod rows;
 mod theorems;
 
 pub use numbers::Numbers;
+pub use points::inverted;
 pub use points::mu_of;
 pub use points::node_of;
 pub use points::point_of;
+pub use points::raised;
 pub use points::suits;
 pub use rows::first_entry;
 pub use rows::second_entry;

@@ -25,7 +25,7 @@ pub fn point_of<F: Field>(numbers: &Numbers, s: u32) -> F::Elem
 }
 
 // x to the power of n.
-fn power_of<F: Field>(x: F::Elem, n: usize) -> F::Elem
+pub fn raised<F: Field>(x: F::Elem, n: usize) -> F::Elem
     ensures { λ r. ⌜ r ≡ power (F·Field .ops) x n ⌝ }
 {
     let mut all = F::one();
@@ -35,11 +35,21 @@ fn power_of<F: Field>(x: F::Elem, n: usize) -> F::Elem
     all
 }
 
+// The inverse, and zero for zero.
+pub fn inverted<F: Field>(x: F::Elem) -> F::Elem
+    ensures { λ r. ⌜ r ≡ F·Field .ops .inv x ⌝ }
+{
+    match F::inverse(x) {
+        Some(i) => i,
+        None => F::zero(),
+    }
+}
+
 // μ of node s, its point to the power of α.
 pub fn mu_of<F: Field>(numbers: &Numbers, s: u32) -> F::Elem
     ensures { λ m. ⌜ (s < 2 ^ 16 → m ≡ mu (F·Field .ops) (now (numbers .entry)) s) ⌝ }
 {
-    power_of::<F>(point_of::<F>(numbers, s), numbers.alpha())
+    raised::<F>(point_of::<F>(numbers, s), numbers.alpha())
 }
 
 // Whether no node before node s has its μ.

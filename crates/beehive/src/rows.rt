@@ -11,6 +11,7 @@ ghost use Rattle.beehive.specs.Rule.{phi-times, segment};
 ghost use Rattle.beehive.specs.Matrices.{square, narrow};
 
 use crate::numbers::Numbers;
+use crate::points::inverted;
 use crate::points::mu_of;
 use crate::points::point_of;
 use algebra::value;
@@ -113,16 +114,6 @@ pub fn segment_of<F: Field>(numbers: &Numbers, i: u32, j: u32, block: &[F::Elem]
         return None;
     }
     let apart = F::add(mu_of::<F>(numbers, i), mu_of::<F>(numbers, j));
-    let head = F::mul(inverse_or_zero::<F>(apart), first_along::<F>(numbers, j, block));
+    let head = F::mul(inverted::<F>(apart), first_along::<F>(numbers, j, block));
     Some(F::add(second_along::<F>(numbers, j, block), head))
-}
-
-// The inverse, and zero for zero.
-fn inverse_or_zero<F: Field>(x: F::Elem) -> F::Elem
-    ensures { λ r. ⌜ r ≡ F·Field .ops .inv x ⌝ }
-{
-    match F::inverse(x) {
-        Some(i) => i,
-        None => F::zero(),
-    }
 }

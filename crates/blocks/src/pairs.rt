@@ -8,8 +8,8 @@ ghost use Rattle.blocks.specs.Weights.{others, share-weight};
 
 use algebra::product_besides;
 use algebra::value;
-use coder::inverted;
-use coder::raised;
+use beehive::inverted;
+use beehive::raised;
 use field::Field;
 
 // (xⁿ + qⁿ) / (pⁿ + qⁿ)

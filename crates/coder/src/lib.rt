@@ -16,8 +16,6 @@ pub use scalars::box_point;
 pub use scalars::coefficient;
 pub use scalars::fill_points;
 pub use scalars::fits_plan;
-pub use scalars::inverted;
 pub use scalars::list_entry;
-pub use scalars::raised;
 pub use theorems::apply_sums_rows;
 pub use theorems::plans_fit;

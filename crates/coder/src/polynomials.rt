@@ -9,7 +9,7 @@ use algebra::product_besides;
 use algebra::scale;
 use algebra::value;
 use crate::scalars::coefficient;
-use crate::scalars::inverted;
+use beehive::inverted;
 use field::Field;
 
 // Makes row the Lagrange polynomial of point i: the product of X + p over the other points, divided by its value at point i.

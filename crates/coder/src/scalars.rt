@@ -10,28 +10,8 @@ ghost use Rattle.beehive.specs.Points.{point, mu};
 ghost use Rattle.coder.specs.Points.{listed, chosen-point};
 
 use beehive::Numbers;
+use beehive::raised;
 use field::Field;
-
-// x to the power n.
-pub fn raised<F: Field>(x: F::Elem, n: usize) -> F::Elem
-    ensures { λ r. ⌜ r ≡ power (F·Field .ops) x n ⌝ }
-{
-    let mut y = F::one();
-    for i in 0..n {
-        y = F::mul(x, y);
-    }
-    y
-}
-
-// The inverse, and zero for zero.
-pub fn inverted<F: Field>(a: F::Elem) -> F::Elem
-    ensures { λ r. ⌜ r ≡ F·Field .ops .inv a ⌝ }
-{
-    match F::inverse(a) {
-        Some(i) => i,
-        None => F::zero(),
-    }
-}
 
 // The point of a box; a number that is no box has one too.
 pub fn box_point<F: Field>(numbers: &Numbers, at: u16) -> F::Elem

@@ -3,7 +3,7 @@ use Prim.Native.Nat.{ℕ}
 use native.Mathlib.Numerals.{add-one}
 use Rattle.algebra.specs.Poly.{power}
 use Rattle.algebra.proofs.Poly.{power-none, power-more}
-use Rattle.beehive.proofs.points.power_of.Needs as need
+use Rattle.beehive.proofs.points.raised.Needs as need
 
 pub loop-i-holds : need.loop-i-holds
 loop-i-holds g c = c .one-all .ensures ∙ sym (power-none (g .F·Field .ops) (c .args .x))
