@@ -1,5 +1,7 @@
 // Polynomials over any field: a grid of lent elements, arithmetic on coefficients, and the one solver, which finds the
 // Lagrange polynomials of given points and so the polynomial through given values.
+#![tactic(auto)]
+
 mod grid;
 mod points;
 mod polynomial;

@@ -1,5 +1,7 @@
 // Runs of the solver: tests over the nibble field and the pairs of bytes, and a program that prints the Lagrange
 // polynomials of three points of the nibble field, the lowest coefficient first.
+#![tactic(auto)]
+
 #[cfg(test)]
 mod tests;
 

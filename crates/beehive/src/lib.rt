@@ -1,4 +1,6 @@
 // The Beehive code: the stripe's numbers, the points of its nodes, the code rule and the theorems on it.
+#![tactic(auto)]
+
 mod limits;
 mod numbers;
 mod points;

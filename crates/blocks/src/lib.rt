@@ -1,5 +1,7 @@
 // Plans over the rows of k boxes: the rows of every box from the data, and from any k boxes the rows of every box, and so
 // the data.
+#![tactic(auto)]
+
 mod pairs;
 mod plans;
 mod theorems;

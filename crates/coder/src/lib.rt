@@ -1,6 +1,8 @@
 // What a stripe computes, as coefficients and their application: every row that a call writes is a sum of coefficients
 // times rows that it reads. `apply` adds one multiple of a row to another; here is also what all plans are made of: points
 // of boxes, powers, inverses, Lagrange polynomials.
+#![tactic(auto)]
+
 mod polynomials;
 mod rows;
 mod scalars;

@@ -1,5 +1,7 @@
 // Finite fields of characteristic two: the interface with its laws, fields of polynomials through tables of
 // logarithms and powers, and pairs over a field that can be extended.
+#![tactic(auto)]
+
 mod byte;
 mod entries;
 mod extended;

@@ -1,4 +1,6 @@
 // The console of the stripe, as far as it stands: whole tasks that say each of their steps.
+#![tactic(auto)]
+
 mod edges;
 mod example;
 mod memory;

@@ -1,5 +1,7 @@
 // The ledger: what every run of calls on a stripe must answer and leave behind. The definitions are in specs/; here are the lengths that
 // the calls ask for, and the theorems.
+#![tactic(auto)]
+
 mod lengths;
 mod theorems;
 

@@ -1,4 +1,6 @@
 // Plans of a repair: the segments that helpers send and newcomers pass, and the rows that are settled from them.
+#![tactic(auto)]
+
 mod help;
 mod settle;
 mod theorems;

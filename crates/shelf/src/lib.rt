@@ -1,4 +1,6 @@
 // Shelves: where the rows of the boxes are kept.
+#![tactic(auto)]
+
 mod bits;
 mod boxes;
 mod checks;

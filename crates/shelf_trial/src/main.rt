@@ -1,4 +1,6 @@
 // Drives a word shelf and a packed shelf by the same random calls, and compares all that they answer.
+#![tactic(auto)]
+
 ghost use Rattle.std.specs.Prelude.{◌<◌, ◌≤◌, length};
 
 use refusal::Denial;

@@ -13,5 +13,5 @@ carried {B} l nu rootless a n e (Some i) h = (h.0 ∙ ap B.inv e, norm_apart l n
 
 pub returns : goal.returns
 returns g c =
-    carried g.met.B.Extensible.laws g.B.Extensible.nu g.met.B.Extensible.rootless c.args.a c.norm-of.result c.norm-of.ensures
+    carried g.met.B.Extensible.laws g.B.Extensible.nu g.met.B.Extensible.rootless c.args.a c.norm_of.result c.norm_of.ensures
     c.inverse.result c.inverse.ensures
