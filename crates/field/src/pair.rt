@@ -58,10 +58,9 @@ impl<B: Extensible> Field for Pair<B> {
     }
 
     fn one() -> Pair<B::Elem> {
-        Pair {
-            low: B::one(),
-            high: B::zero(),
-        }
+        let low = B::one();
+        let high = B::zero();
+        Pair { low, high }
     }
 
     fn add(a: Pair<B::Elem>, b: Pair<B::Elem>) -> Pair<B::Elem> {
