@@ -4,7 +4,7 @@ use mathlib.Core.Path.{◌≡⟨◌⟩◌, ◌∎}
 use Rattle.std.proofs.lemmas.Bool.{eq-eqb, ne_eqb, cases_eq, cond-true, cond-false}
 use Rattle.field.specs.Laws.{Ops, Laws}
 use Rattle.algebra.specs.Poly.{sum, unit}
-use Rattle.algebra.proofs.Ring.{ring, add-zero, zero_add, mul_zero}
+use Rattle.algebra.proofs.Ring.{ring, add_zero, zero_add, mul_zero}
 
 module _ {E : Type 0} (F : Ops E) where
   pub sum_none : (f : ℕ → E) → sum F 0 f ≡ F.zero
@@ -33,7 +33,7 @@ module _ {E : Type 0} {F : Ops E} (L : Laws F) where
   infixl 70 ◌⊗◌
   pub sum_zero : (n : ℕ) (f : ℕ → E) → ((i : ℕ) → i < n → f i ≡ 𝟎) → sum F n f ≡ 𝟎
   sum_zero zero f h = sum_none F f
-  sum_zero (suc n) f h = sum_more F n f ∙ ap₂ F.add (sum_zero n f (λ i l. h i (omega arith))) (h n (omega arith)) ∙ add-zero L 𝟎
+  sum_zero (suc n) f h = sum_more F n f ∙ ap₂ F.add (sum_zero n f (λ i l. h i (omega arith))) (h n (omega arith)) ∙ add_zero L 𝟎
 
   pub sum_add : (n : ℕ) (f g : ℕ → E) → sum F n (λ i. f i ⊕ g i) ≡ sum F n f ⊕ sum F n g
   sum_add zero f g = simp sum_none (simp (ring, L))
@@ -53,7 +53,7 @@ module _ {E : Type 0} {F : Ops E} (L : Laws F) where
 
   -- the sum over n + m is that over n and that over the next m
   pub sum_split : (n m : ℕ) (f : ℕ → E) → sum F (n + m) f ≡ sum F n f ⊕ sum F m (λ i. f (n + i))
-  sum_split n zero f = rw (plus_zero n, sum_none F (λ i. f (n + i))) (sym (add-zero L (sum F n f)))
+  sum_split n zero f = rw (plus_zero n, sum_none F (λ i. f (n + i))) (sym (add_zero L (sum F n f)))
   sum_split n (suc m) f = rw (add-suc n m, sum_more F (n + m) f, sum_more F m (λ i. f (n + i)), sum_split n m f) (simp (ring, L))
 
   pub sum_swap : (n m : ℕ) (f : ℕ → ℕ → E) → sum F n (λ i. sum F m (λ j. f i j)) ≡ sum F m (λ j. sum F n (λ i. f i j))
@@ -70,4 +70,4 @@ module _ {E : Type 0} {F : Ops E} (L : Laws F) where
     where
       go : (n ≡ k) ⊎ (n ≡ k → ⊥) → (k < n → sum F n f ≡ f k) → sum F n f ⊕ f n ≡ f k
       go (inl e) r = ap₂ F.add (sum_zero n f (λ i b. h i (omega arith) (λ d. omega arith))) (ap f e) ∙ zero_add L (f k)
-      go (inr ne) r = ap₂ F.add (r (omega arith)) (h n (omega arith) ne) ∙ add-zero L (f k)
+      go (inr ne) r = ap₂ F.add (r (omega arith)) (h n (omega arith) ne) ∙ add_zero L (f k)

@@ -8,7 +8,7 @@ use Rattle.algebra.proofs.points.product_besides.Goals as goal
 use Rattle.algebra.proofs.points.product_besides.Goals.{then-c-i+then-c-j, else-c-i, else-c-i-via-then-c-i+else-c-j, else-c-i-via-else-c-i}
 
 pub loop-c-init : goal.loop-c-init
-loop-c-init g c = λ k l. c.set-one.ensures k (omega arith) ∙
+loop-c-init g c = λ k l. c.set_one.ensures k (omega arith) ∙
     ap (λ h. h k) (sym (factors_none g.F.Field.ops (besides c.args.i c.args.j) (entry g.F.Field.ops c.args.points.now)))
 
 pub loop-c-preserved : goal.loop-c-preserved
@@ -17,14 +17,14 @@ loop-c-preserved g c =
     let ps = c.args.points.now in
     let i = c.args.i in
     let j = c.args.j in
-    let n = length c.set-one.new.f in
+    let n = length c.set_one.new.f in
     let t = c.loop-c.c in
     let l : t < length ps = omega arith in
     elim c.if-c-i.branch [
       | then-c-i+then-c-j w ↦
-          let r = kept_turn F n (besides i j) (entry F ps) t w.index-points-c.result (entry F c.loop-c.f) (entry F w.times-root.new.f)
+          let r = kept_turn F n (besides i j) (entry F ps) t w.index-points-c.result (entry F c.loop-c.f) (entry F w.times_root.new.f)
           (besides_in i j t (λ e. omega (arith, w.if-c-i.true)) (λ e. omega (arith, w.if-c-j.true)))
-          (read_entry F ps t w.index-points-c.result l w.index-points-c.is) c.loop-c.invariant (λ k h. w.times-root.ensures.after k (omega arith)) in
+          (read_entry F ps t w.index-points-c.result l w.index-points-c.is) c.loop-c.invariant (λ k h. w.times_root.ensures.after k (omega arith)) in
           subst (λ f. Same n (entry F f) (factors F (besides i j) (entry F ps) (t + 1))) (sym w.f-is) r
       | else-c-i w ↦
           let k : besides i j t ≡ false = elim w.else-c-i.branch [

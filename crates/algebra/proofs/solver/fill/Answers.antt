@@ -4,17 +4,17 @@ use Rattle.algebra.specs.Cells.{entry}
 use Rattle.algebra.proofs.Solving.{Filled, row_ends, filled_none, filled_more, filled_all}
 use Rattle.algebra.proofs.solver.fill.Goals as goal
 
-pub overflow-mul-start : goal.overflow-mul-start
-overflow-mul-start g c = let h = row_ends c.loop-i.i (length c.args.points.now) c.args.cols (length c.args.cells.now) (omega arith) (omega arith) in omega arith
+pub overflow_mul-start : goal.overflow_mul-start
+overflow_mul-start g c = let h = row_ends c.loop-i.i (length c.args.points.now) c.args.cols (length c.args.cells.now) (omega arith) (omega arith) in omega arith
 
-pub overflow-add-start : goal.overflow-add-start
-overflow-add-start g c = let h = row_ends c.loop-i.i (length c.args.points.now) c.args.cols (length c.args.cells.now) (omega arith) (omega arith) in omega arith
+pub overflow_add-start : goal.overflow_add-start
+overflow_add-start g c = let h = row_ends c.loop-i.i (length c.args.points.now) c.args.cols (length c.args.cells.now) (omega arith) (omega arith) in omega arith
 
-pub offset-bounds-cells-start : goal.offset-bounds-cells-start
-offset-bounds-cells-start g c = let h = row_ends c.loop-i.i (length c.args.points.now) c.args.cols (length c.args.cells.now) (omega arith) (omega arith) in search rules
+pub offset_bounds-cells-start : goal.offset_bounds-cells-start
+offset_bounds-cells-start g c = let h = row_ends c.loop-i.i (length c.args.points.now) c.args.cols (length c.args.cells.now) (omega arith) (omega arith) in search rules
 
-pub slice-bounds-lagrange-end : goal.slice-bounds-lagrange-end
-slice-bounds-lagrange-end g c = let h = row_ends c.loop-i.i (length c.args.points.now) c.args.cols (length c.args.cells.now) (omega arith) (omega arith) in omega arith
+pub slice_bounds-lagrange-end : goal.slice_bounds-lagrange-end
+slice_bounds-lagrange-end g c = let h = row_ends c.loop-i.i (length c.args.points.now) c.args.cols (length c.args.cells.now) (omega arith) (omega arith) in omega arith
 
 pub loop-i-preserved : goal.loop-i-preserved
 loop-i-preserved g c =

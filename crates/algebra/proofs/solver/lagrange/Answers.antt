@@ -11,23 +11,23 @@ returns-in-Some g c =
     let ps = c.args.points.now in
     let m = length ps in
     let i = c.args.i in
-    let f = c.product-besides.new.f in
+    let f = c.product_besides.new.f in
     let l : i < m = omega arith in
     let n : length f ≡ m = omega arith in
     let h : c.value-height.result ≡ poly F m (entry F f) (entry F ps i) =
     c.value-height.ensures ∙ ap₂ (λ n x. poly F n (entry F f) x) n (read_entry F ps i c.index-points-i.result l c.index-points-i.is) in
-    one_at g.met.F.Field.laws m (entry F ps) i (entry F f) l (λ k b. c.product-besides.ensures k (omega arith)) c.requires.1 c.value-height.result c.in-Some.inverse
+    one_at g.met.F.Field.laws m (entry F ps) i (entry F f) l (λ k b. c.product_besides.ensures k (omega arith)) c.requires.distinct c.value-height.result c.in-Some.inverse
     (entry F c.scale.new.f) h c.in-Some.ensures.0 (λ k b. c.scale.ensures k (omega arith))
 
-pub returns-in-default : goal.returns-in-default
-returns-in-default g c =
+pub returns-in_default : goal.returns-in_default
+returns-in_default g c =
     let F = g.F.Field.ops in
     let ps = c.args.points.now in
     let m = length ps in
     let i = c.args.i in
-    let f = c.product-besides.new.f in
+    let f = c.product_besides.new.f in
     let l : i < m = omega arith in
     let n : length f ≡ m = omega arith in
     let h : c.value-height.result ≡ poly F m (entry F f) (entry F ps i) =
     c.value-height.ensures ∙ ap₂ (λ n x. poly F n (entry F f) x) n (read_entry F ps i c.index-points-i.result l c.index-points-i.is) in
-    absurd (height_nonzero g.met.F.Field.laws m (entry F ps) i (entry F f) l (λ k b. c.product-besides.ensures k (omega arith)) c.requires.1 c.value-height.result h c.in-default.ensures)
+    absurd (height_nonzero g.met.F.Field.laws m (entry F ps) i (entry F f) l (λ k b. c.product_besides.ensures k (omega arith)) c.requires.distinct c.value-height.result h c.in_default.ensures)

@@ -20,7 +20,7 @@ loop-i-preserved g c =
     let l : i < length ys = omega arith in
     let n : length row ≡ length ps = omega arith in
     blend_more g.met.F.Field.laws (length ps) (entry F ps) (entry F ys) c.args.x i (entry F row) c.loop-i.sum c.index-values-i.result c.value.result c.mul.result
-    c.add-sum.result c.requires.1 (omega arith) c.lagrange.ensures c.loop-i.invariant (read_entry F ys i c.index-values-i.result l c.index-values-i.is)
+    c.add-sum.result c.requires.distinct (omega arith) c.lagrange.ensures c.loop-i.invariant (read_entry F ys i c.index-values-i.result l c.index-values-i.is)
     (c.value.ensures ∙ ap (λ n. poly F n (entry F row) c.args.x) n) c.mul.ensures c.add-sum.ensures
 
 pub returns : goal.returns
@@ -29,5 +29,5 @@ returns g c =
     let ps = c.args.points.now in
     let ys = c.args.values.now in
     let e : c.loop-i.i ≡ length ps = omega arith in
-    blend_all g.met.F.Field.laws (length ps) (entry F ps) (entry F ys) c.args.x c.loop-i.sum c.requires.1
+    blend_all g.met.F.Field.laws (length ps) (entry F ps) (entry F ys) c.args.x c.loop-i.sum c.requires.distinct
     (c.loop-i.invariant ∙ ap (blend g.met.F.Field.laws (length ps) (entry F ps) (entry F ys) c.args.x) e)

@@ -6,11 +6,11 @@ pub returns : goal.returns
 returns g c =
     let s = c.args.scratch.now in
     let k = length c.args.points.now - 0 in
-    let fit = c.in-ok-judge.ensures in
+    let fit = c.in_ok-judge.ensures in
     let l : k ≤ length s = omega arith in
-    let n : length c.combined-value.new.row ≡ k = omega (arith, c.combined-value.auto.row, length-take k s) in
+    let n : length c.combined_value.new.row ≡ k = omega (arith, c.combined_value.auto.row, length-take k s) in
     record {
       cases = fit;
-      value = c.combined-value.ensures;
-      scratch = λ j d. front_above k s c.combined-value.new.row g.F.Field.ops.zero l n j (omega arith);
+      value = c.combined_value.ensures;
+      scratch = λ j d. front_above k s c.combined_value.new.row g.F.Field.ops.zero l n j (omega arith);
     }
