@@ -9,5 +9,5 @@ loop-i-init g c = c.one-all.ensures ∙ sym (power_none g.F.Field.ops c.args.x)
 pub loop-i-preserved : goal.loop-i-preserved
 loop-i-preserved g c =
     let F = g.F.Field.ops in
-    c.mul-all.ensures ∙ ap (F.mul c.args.x) c.loop-i.invariant ∙ sym (power_more F c.args.x c.loop-i.-i)
-    ∙ ap (power F c.args.x) (sym (add-one c.loop-i.-i))
+    c.mul-all.ensures ∙ ap (F.mul c.args.x) c.loop-i.invariant ∙ sym (power_more F c.args.x c.loop-i._i)
+    ∙ ap (power F c.args.x) (sym (add-one c.loop-i._i))

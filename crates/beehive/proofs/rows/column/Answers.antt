@@ -20,7 +20,7 @@ loop-i-preserved g c =
     let N = c.args.numbers.now in
     let x = point F N c.args.s in
     let i = c.loop-i.i in
-    let p = c.point-of-p.ensures c.requires.0 in (
+    let p = c.point_of-p.ensures c.requires.0 in (
       c.add-sum.ensures
           ∙ ap₂ F.add c.loop-i.invariant.0 (c.mul.ensures ∙ ap₂ F.mul c.loop-i.invariant.1 c.cell.ensures)
           ∙ sym (dot_more F i (powers F N c.args.s) (λ i. matrix F c.args.cells.now c.args.cols i c.args.j)),

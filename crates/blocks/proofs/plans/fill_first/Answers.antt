@@ -7,8 +7,8 @@ use Rattle.blocks.specs.Weights.{grid_sum}
 use Rattle.coder.proofs.Indices.{row_of, row_inside, plan_bound}
 use Rattle.blocks.proofs.plans.fill_first.Goals as goal
 
-pub first-cell-requires : goal.first-cell-requires
-first-cell-requires g c =
+pub first_cell-requires : goal.first_cell-requires
+first_cell-requires g c =
     let n = c.args.numbers.now in
     let b = c.beta-beta.result in
     let eb : b ≡ beta n = c.beta-beta.ensures in
@@ -24,8 +24,8 @@ loop-e-preserved g c =
     let F = g.F.Field.ops in
     let e = c.loop-e.e in
     let h : c.needed.result * c.beta-beta.result ≡ c.args.numbers.now.k * beta c.args.numbers.now = ap₂ (◌*◌) c.needed.ensures c.beta-beta.ensures in
-    written_more F.zero (λ e. grid_sum F (length c.args.points.now) (entry F c.args.points.now) (entry F c.args.pairs.now) (alpha c.args.numbers.now) (e / beta c.args.numbers.now) (e % beta c.args.numbers.now)) c.args.plan.now c.loop-e.plan e c.first-cell.result (omega arith)
-    (c.first-cell.ensures ∙ ap₂ (λ a b. grid_sum F (length c.args.points.now) (entry F c.args.points.now) (entry F c.args.pairs.now) a (e / b) (e % b)) c.alpha.ensures c.beta-beta.ensures)
+    written_more F.zero (λ e. grid_sum F (length c.args.points.now) (entry F c.args.points.now) (entry F c.args.pairs.now) (alpha c.args.numbers.now) (e / beta c.args.numbers.now) (e % beta c.args.numbers.now)) c.args.plan.now c.loop-e.plan e c.first_cell.result (omega arith)
+    (c.first_cell.ensures ∙ ap₂ (λ a b. grid_sum F (length c.args.points.now) (entry F c.args.points.now) (entry F c.args.pairs.now) a (e / b) (e % b)) c.alpha.ensures c.beta-beta.ensures)
     c.loop-e.invariant
 
 pub returns : goal.returns

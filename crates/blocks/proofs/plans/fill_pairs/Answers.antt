@@ -6,14 +6,14 @@ use Rattle.blocks.specs.Weights.{pair_cell}
 use Rattle.coder.proofs.Indices.{row_of}
 use Rattle.blocks.proofs.plans.fill_pairs.Goals as goal
 
-pub overflow-add-virtuals : goal.overflow-add-virtuals
-overflow-add-virtuals g c =
+pub overflow_add-virtuals : goal.overflow_add-virtuals
+overflow_add-virtuals g c =
     let m = length c.args.points.now in
     let a : c.loop-e.e / m < m - c.args.virtuals = row_of c.loop-e.e (m - c.args.virtuals) m (omega arith) (omega arith) in
     omega arith
 
-pub pair-weight-requires : goal.pair-weight-requires
-pair-weight-requires g c =
+pub pair_weight-requires : goal.pair_weight-requires
+pair_weight-requires g c =
     let m = length c.args.points.now in
     let e = c.loop-e.e in
     let a : e / m < m - c.args.virtuals = row_of e (m - c.args.virtuals) m (omega arith) (omega arith) in
@@ -31,8 +31,8 @@ loop-e-preserved g c =
     let e = c.loop-e.e in
     let h : length c.loop-e.row ≡ n = omega arith in
     let m : length ps ≡ suc n = omega arith in
-    written_more F.zero (pair_cell F n (entry F ps) c.args.virtuals c.args.x c.args.q) c.args.pairs.now c.loop-e.pairs e c.pair-weight.result (omega arith)
-    (c.pair-weight.ensures ∙ ap₂ (λ n m. F.mul (share_weight F n (entry F ps) (c.args.virtuals + e / m) (e % m) c.args.x) (others F n (entry F ps) (c.args.virtuals + e / m) (e % m) c.args.q)) h m)
+    written_more F.zero (pair_cell F n (entry F ps) c.args.virtuals c.args.x c.args.q) c.args.pairs.now c.loop-e.pairs e c.pair_weight.result (omega arith)
+    (c.pair_weight.ensures ∙ ap₂ (λ n m. F.mul (share_weight F n (entry F ps) (c.args.virtuals + e / m) (e % m) c.args.x) (others F n (entry F ps) (c.args.virtuals + e / m) (e % m) c.args.q)) h m)
     c.loop-e.invariant
 
 pub returns : goal.returns

@@ -9,10 +9,10 @@ pub returns : goal.returns
 returns g c =
     let F = g.F.Field.ops in
     let n = c.args.numbers.now in
-    let h = c.if-not-fits-plan.ensures.0 refl in
+    let h = c.if-not-fits_plan.ensures.0 refl in
     let e : c.needed.result * c.beta.result ≡ n.k * beta n = ap₂ (◌*◌) c.needed.ensures c.beta.ensures in
-    let m = c.split-at-mut-points.ensures.front-len ∙ c.point-count.ensures in (
+    let m = c.split_at_mut-points.ensures.front-len ∙ c.point_count.ensures in (
       (omega arith, h.1),
-      planned_boxes F n suc c.args.to c.args.row (entry F c.fill-first-points.new.points) c.box-point.result c.args.plan.now c.row-over.new.plan
-          (λ k l. c.fill-first-points.ensures k (omega arith)) c.box-point.ensures c.row-over.ensures,
+      planned_boxes F n suc c.args.to c.args.row (entry F c.fill_first_points.new.points) c.box_point.result c.args.plan.now c.row_over.new.plan
+          (λ k l. c.fill_first_points.ensures k (omega arith)) c.box_point.ensures c.row_over.ensures,
     )

@@ -9,8 +9,8 @@ returns g c =
     let F = g.F.Field.ops in
     let ps = c.args.points.now in
     let n = length c.args.row.now in
-    let f = c.product-besides.new.f in
+    let f = c.product_besides.new.f in
     let e : length f ≡ n = omega arith in
-    lagrange_made F n (length ps) (entry F ps) c.args.i (entry F f) (entry F c.scale.new.f) c.value-height.result c.inverted.result c.product-besides.ensures
+    lagrange_made F n (length ps) (entry F ps) c.args.i (entry F f) (entry F c.scale.new.f) c.value-height.result c.inverted.result c.product_besides.ensures
     (c.value-height.ensures ∙ ap₂ (λ n x. poly F n (entry F f) x) e c.coefficient.ensures)
     c.inverted.ensures (λ k b. c.scale.ensures k (omega arith))

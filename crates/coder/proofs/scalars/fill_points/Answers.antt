@@ -9,7 +9,7 @@ loop-i-init g c = written_none g.F.Field.ops.zero (chosen_point g.F.Field.ops c.
 pub loop-i-preserved : goal.loop-i-preserved
 loop-i-preserved g c =
     written_more g.F.Field.ops.zero (chosen_point g.F.Field.ops c.args.numbers.now (listed c.args.list.now)) c.args.points.now c.loop-i.points c.loop-i.i
-    c.listed-point.result (omega arith) c.listed-point.ensures c.loop-i.invariant
+    c.listed_point.result (omega arith) c.listed_point.ensures c.loop-i.invariant
 
 pub returns : goal.returns
 returns g c = λ k h. c.loop-i.invariant.done k (omega arith)

@@ -15,7 +15,7 @@ loop-a-preserved g c =
     let some : 1 ≤ n = omega (arith, c.if-a-eq0.false) in
     let most : n ≤ length held = omega (arith, c.if-a-held.false) in
     let inside : n - 1 < length held = omega arith in (
-      c.in-ok-push.ensures.items
+      c.in_ok-push.ensures.items
           ∙ mapped_more (λ a. entry F held (a - 1)) xs i 0 c.loop-a.v.items c.index-held-a.result h c.loop-a.invariant.0
           (c.index-held-a.is ∙ read held (n - 1) c.index-held-a.result F.zero inside),
       below_more (λ k. (1 ≤ get_or xs k 0) × (get_or xs k 0 ≤ length held)) i c.loop-a.invariant.1 (some, most),

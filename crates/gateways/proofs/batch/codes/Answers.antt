@@ -7,7 +7,7 @@ loop-e-preserved g c =
     let xs = c.args.elements.now in
     let i = c.loop-e.e-index in
     let h : i < length xs = omega arith in
-    c.in-ok-push.ensures.items
+    c.in_ok-push.ensures.items
     ∙ mapped_more g.F.Field.ops.code xs i c.e-item.result c.loop-e.v.items c.code.result h c.loop-e.invariant (c.code.ensures ∙ ap g.F.Field.ops.code c.e-item.is)
 
 pub returns : goal.returns

@@ -7,7 +7,7 @@ loop-c-preserved g c =
     let xs = c.args.codes.now in
     let i = c.loop-c.c-index in
     let h : i < length xs = omega arith in
-    c.in-ok-push.ensures.items
+    c.in_ok-push.ensures.items
     ∙ mapped_more g.F.Field.ops.element xs i 0 c.loop-c.v.items c.element.result h c.loop-c.invariant c.element.ensures
 
 pub returns : goal.returns

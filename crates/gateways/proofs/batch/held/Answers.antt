@@ -12,7 +12,7 @@ loop-i-preserved g c =
     let v = c.loop-i.v in
     let e = c.value.ensures ∙ ap (poly F (length batch) (entry F batch)) c.element.ensures in
     let long : length v.items ≡ i = sym v.ok.0 ∙ c.loop-i.invariant.0 in (
-      c.in-ok-push.ensures.len ∙ ap (λ (n : ℕ). n + 1) c.loop-i.invariant.0,
-      λ k h. ap (λ xs. get_or xs k F.zero) c.in-ok-push.ensures.items
+      c.in_ok-push.ensures.len ∙ ap (λ (n : ℕ). n + 1) c.loop-i.invariant.0,
+      λ k h. ap (λ xs. get_or xs k F.zero) c.in_ok-push.ensures.items
           ∙ placed_more (λ k. poly F (length batch) (entry F batch) (F.element (k + 1))) v.items i F.zero c.value.result long c.loop-i.invariant.1 e k h,
     )

@@ -13,11 +13,11 @@ pub returns : goal.returns
 returns g c =
     let F = g.F.Field.ops in
     let ps = c.args.points.now in
-    let f = c.in-ok-f.f in
+    let f = c.in_ok-f.f in
     let last = c.interpolate.new.f in
     let e : take f.len (last ++ drop (length last) f.items) ≡ last = take_whole f.len last (drop (length last) f.items) (omega arith) in
     record {
-      len = c.in-ok-f.ensures;
-      apart = c.in-ok-interpolate.ensures.cases.2;
-      value = subst (λ xs. Through F (length ps) (entry F ps) (entry F c.args.values.now) (entry F xs)) (sym e) c.in-ok-interpolate.ensures.after.through;
+      len = c.in_ok-f.ensures;
+      apart = c.in_ok-interpolate.ensures.cases.2;
+      value = subst (λ xs. Through F (length ps) (entry F ps) (entry F c.args.values.now) (entry F xs)) (sym e) c.in_ok-interpolate.ensures.after.through;
     }

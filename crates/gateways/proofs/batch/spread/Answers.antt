@@ -12,15 +12,15 @@ returns g c =
     let points = c.deref-3.result.now in
     let values = c.deref-4.result.now in
     let f = c.deref-6.result.now in
-    c.in-ok-codes-2.ensures
-    ∙ comes_back g.met.F.Field.laws c.args.batch.now c.args.answering.now (c.all-codes.ensures c.if-not-all-codes.false) c.if-answering-batch.false
+    c.in_ok-codes-2.ensures
+    ∙ comes_back g.met.F.Field.laws c.args.batch.now c.args.answering.now (c.all_codes.ensures c.if-not-all_codes.false) c.if-answering-batch.false
     coefficients held points values f
-    (c.deref.ensures.value ∙ c.in-ok-polynomial.ensures)
+    (c.deref.ensures.value ∙ c.in_ok-polynomial.ensures)
     (λ k h. ap (λ xs. entry F xs k) c.deref-2.ensures.value
-    ∙ c.in-ok-held.ensures.value k (subst (λ (n : ℕ). k < n) (c.deref-2.ensures.len ∙ c.in-ok-held.ensures.len) h))
-    (c.deref-3.ensures.value ∙ c.in-ok-points.ensures)
-    (c.deref-4.ensures.value ∙ c.in-ok-values.ensures.value)
-    c.in-ok-values.ensures.named
-    (c.deref-6.ensures.len ∙ c.in-ok-back.ensures.len)
-    c.in-ok-back.ensures.apart
-    (subst (λ xs. Through F (length points) (entry F points) (entry F values) (entry F xs)) (sym c.deref-6.ensures.value) c.in-ok-back.ensures.value)
+    ∙ c.in_ok-held.ensures.value k (subst (λ (n : ℕ). k < n) (c.deref-2.ensures.len ∙ c.in_ok-held.ensures.len) h))
+    (c.deref-3.ensures.value ∙ c.in_ok-points.ensures)
+    (c.deref-4.ensures.value ∙ c.in_ok-values.ensures.value)
+    c.in_ok-values.ensures.named
+    (c.deref-6.ensures.len ∙ c.in_ok-back.ensures.len)
+    c.in_ok-back.ensures.apart
+    (subst (λ xs. Through F (length points) (entry F points) (entry F values) (entry F xs)) (sym c.deref-6.ensures.value) c.in_ok-back.ensures.value)

@@ -24,8 +24,8 @@ loop-i-preserved g c =
     let a = F.add (mu F n (node n (listed hs i))) (mu F n (node n c.args.j)) in
     let x = point F n (node n c.args.e) in
     let ei : c.helpers-count.result ≡ n.d = c.helpers-count.ensures in
-    written_more F.zero (pass_weight F n c.args.j c.args.e (listed hs)) c.args.plan.now c.loop-i.plan i c.pass-cell.result (omega arith)
-    (c.pass-cell.ensures ∙ ap₂ (λ r m. F.mul r (F.mul a (poly F m (lagrange F m (entry F ps) (virtuals n + i)) x))) c.mu-inverse-ratio.ensures m ∙
+    written_more F.zero (pass_weight F n c.args.j c.args.e (listed hs)) c.args.plan.now c.loop-i.plan i c.pass_cell.result (omega arith)
+    (c.pass_cell.ensures ∙ ap₂ (λ r m. F.mul r (F.mul a (poly F m (lagrange F m (entry F ps) (virtuals n + i)) x))) c.mu_inverse-ratio.ensures m ∙
     ap (λ v. F.mul (F.inv (F.add (mu F n (node n c.args.e)) (mu F n (node n c.args.j)))) (F.mul a v))
     (poly_cong F (alpha n + alpha n) (lagrange F (alpha n + alpha n) (entry F ps) (virtuals n + i)) (helper_poly F n (listed hs) i) x
     (λ k l. lagrange_same F (alpha n + alpha n) (entry F ps) (chosen_point F n (listed hs)) c.requires.1 (virtuals n + i) k (omega arith))))

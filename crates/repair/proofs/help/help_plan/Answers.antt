@@ -18,8 +18,8 @@ loop-r-preserved g c =
     let F = g.F.Field.ops in
     let n = c.args.numbers.now in
     let r = c.loop-r.r in
-    written_more F.zero (help_weight F n c.args.from c.args.about) c.args.plan.now c.loop-r.plan r c.help-cell.result (omega arith)
-    (c.help-cell.ensures ∙ ap (λ v. cond (ltb r (alpha n)) (F.mul v (power F (point F n (node n c.args.about)) r)) (power F (point F n (node n c.args.about)) (r - alpha n))) c.mu-inverse-ratio.ensures)
+    written_more F.zero (help_weight F n c.args.from c.args.about) c.args.plan.now c.loop-r.plan r c.help_cell.result (omega arith)
+    (c.help_cell.ensures ∙ ap (λ v. cond (ltb r (alpha n)) (F.mul v (power F (point F n (node n c.args.about)) r)) (power F (point F n (node n c.args.about)) (r - alpha n))) c.mu_inverse-ratio.ensures)
     c.loop-r.invariant
 
 pub returns : goal.returns

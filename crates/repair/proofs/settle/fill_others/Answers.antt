@@ -17,7 +17,7 @@ loop-m-init g c = written_none g.F.Field.ops.zero _ c.args.points.now
 pub loop-m-preserved : goal.loop-m-preserved
 loop-m-preserved g c =
     written_more g.F.Field.ops.zero (λ m. point g.F.Field.ops c.args.numbers.now (node c.args.numbers.now (listed c.args.list.now m))) c.args.points.now c.loop-m.points c.loop-m.m
-    c.other-point.result (omega arith) c.other-point.ensures c.loop-m.invariant
+    c.other_point.result (omega arith) c.other_point.ensures c.loop-m.invariant
 
 pub returns : goal.returns
 returns g c = λ k h. c.loop-m.invariant.done k (omega arith)

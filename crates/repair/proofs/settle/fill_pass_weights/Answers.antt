@@ -22,8 +22,8 @@ loop-m-preserved g c =
     let m = c.loop-m.m in
     let ml : length c.loop-m.line ≡ length ps = omega arith in
     written_more F.zero (λ m. lagrange F (length ps) (entry F ps) m c.args.q) c.args.weights.now c.loop-m.weights m c.coefficient.result (omega arith)
-    (c.coefficient.ensures ∙ lagrange_read g.met.F.Field.laws (length ps) (entry F ps) m c.lagrange-row.new.row c.args.q (omega arith) (omega arith)
-    (λ k b. c.lagrange-row.ensures k (omega arith) ∙ ap (λ n. cut_lagrange F n (length ps) (entry F ps) m k) ml))
+    (c.coefficient.ensures ∙ lagrange_read g.met.F.Field.laws (length ps) (entry F ps) m c.lagrange_row.new.row c.args.q (omega arith) (omega arith)
+    (λ k b. c.lagrange_row.ensures k (omega arith) ∙ ap (λ n. cut_lagrange F n (length ps) (entry F ps) m k) ml))
     c.loop-m.invariant
 
 pub returns : goal.returns

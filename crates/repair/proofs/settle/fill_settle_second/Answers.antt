@@ -19,8 +19,8 @@ loop-c-preserved g c =
     let F = g.F.Field.ops in
     let n = c.args.numbers.now in
     let e : c.helpers.result + c.tail.result ≡ n.d + tail n = ap₂ (◌+◌) c.helpers.ensures c.tail.ensures in
-    written_more F.zero (second_over F n c.args.j (listed c.args.helpers.now) (entry F c.args.passes.now) (entry F c.args.weights.now)) c.args.plan.now c.loop-c.plan c.loop-c.c c.settle-second-cell.result (omega arith)
-    c.settle-second-cell.ensures c.loop-c.invariant
+    written_more F.zero (second_over F n c.args.j (listed c.args.helpers.now) (entry F c.args.passes.now) (entry F c.args.weights.now)) c.args.plan.now c.loop-c.plan c.loop-c.c c.settle_second_cell.result (omega arith)
+    c.settle_second_cell.ensures c.loop-c.invariant
 
 pub returns : goal.returns
 returns g c =

@@ -17,7 +17,7 @@ loop-k-init g c = written_none g.F.Field.ops.zero _ c.args.share.now
 pub loop-k-preserved : goal.loop-k-preserved
 loop-k-preserved g c =
     written_more g.F.Field.ops.zero (helper_share g.F.Field.ops c.args.numbers.now c.args.j (listed c.args.helpers.now) c.args.i) c.args.share.now c.loop-k.share c.loop-k.k
-    c.first-share.result (omega arith) c.first-share.ensures c.loop-k.invariant
+    c.first_share.result (omega arith) c.first_share.ensures c.loop-k.invariant
 
 pub returns : goal.returns
 returns g c = λ k h. c.loop-k.invariant.done k (omega arith)

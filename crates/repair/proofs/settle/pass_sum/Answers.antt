@@ -20,8 +20,8 @@ pub loop-m-preserved : goal.loop-m-preserved
 loop-m-preserved g c =
     let F = g.F.Field.ops in
     let m = c.loop-m.m in
-    sum_turn F (λ m. F.mul (F.mul (F.inv (F.add c.args.mu (power F (entry F c.args.passes.now m) c.args.n))) (poly F (length c.args.share.now) (entry F c.args.share.now) (entry F c.args.passes.now m))) (entry F c.args.weights.now m)) m c.loop-m.total c.pass-term.result c.add-total.result c.loop-m.invariant
-    (c.pass-term.ensures ∙ ap₂ (λ p w. F.mul (F.mul (F.inv (F.add c.args.mu (power F p c.args.n))) (poly F (length c.args.share.now) (entry F c.args.share.now) p)) w) c.coefficient.ensures c.coefficient-in-loop-m.ensures)
+    sum_turn F (λ m. F.mul (F.mul (F.inv (F.add c.args.mu (power F (entry F c.args.passes.now m) c.args.n))) (poly F (length c.args.share.now) (entry F c.args.share.now) (entry F c.args.passes.now m))) (entry F c.args.weights.now m)) m c.loop-m.total c.pass_term.result c.add-total.result c.loop-m.invariant
+    (c.pass_term.ensures ∙ ap₂ (λ p w. F.mul (F.mul (F.inv (F.add c.args.mu (power F p c.args.n))) (poly F (length c.args.share.now) (entry F c.args.share.now) p)) w) c.coefficient.ensures c.coefficient-in-loop-m.ensures)
     c.add-total.ensures
 
 pub returns : goal.returns

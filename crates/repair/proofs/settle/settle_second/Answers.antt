@@ -16,8 +16,8 @@ pub returns : goal.returns
 returns g c =
     let F = g.F.Field.ops in
     let n = c.args.numbers.now in
-    let ps = c.fill-others.new.points in
+    let ps = c.fill_others.new.points in
     let et : c.tail-t.result ≡ tail n = c.tail-t.ensures in
-    let m : length ps ≡ tail n = omega (arith, c.fill-others.auto.points, c.split-at-mut-passes.ensures.front-len) in
-    planned_second F n c.args.j (listed c.args.helpers.now) (listed c.args.others.now) c.args.q (entry F ps) (entry F c.fill-pass-weights.new.weights) c.args.plan.now c.fill-settle-second.new.plan
-    (λ k l. c.fill-others.ensures k (omega arith)) (λ k l. c.fill-pass-weights.ensures k (omega arith) ∙ ap (λ m. lagrange F m (entry F ps) k c.args.q) m) c.fill-settle-second.ensures
+    let m : length ps ≡ tail n = omega (arith, c.fill_others.auto.points, c.split_at_mut-passes.ensures.front-len) in
+    planned_second F n c.args.j (listed c.args.helpers.now) (listed c.args.others.now) c.args.q (entry F ps) (entry F c.fill_pass_weights.new.weights) c.args.plan.now c.fill_settle_second.new.plan
+    (λ k l. c.fill_others.ensures k (omega arith)) (λ k l. c.fill_pass_weights.ensures k (omega arith) ∙ ap (λ m. lagrange F m (entry F ps) k c.args.q) m) c.fill_settle_second.ensures

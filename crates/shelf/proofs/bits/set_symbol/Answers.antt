@@ -19,8 +19,8 @@ old_part_is m r w h l =
 code_is : (m r w v : ℕ) → m ≤ 16 → m + r ≤ 24 → w < 2 ^ 24 → v < 2 ^ m → (w - old_part m r w) + new_part r v ≡ replaced w m r v
 code_is m r w v h k l s = ap (λ t. (w - t) + new_part r v) (old_part_is m r w h l) ∙ ap (λ t. (w - (w / 2 ^ r % 2 ^ m) * 2 ^ r) + t) (new_shifted m r v s k)
 
-pub overflow-sub-w : goal.overflow-sub-w
-overflow-sub-w c =
+pub overflow_sub-w : goal.overflow_sub-w
+overflow_sub-w c =
     let m = c.args.m in
     let r = (24 - c.args.s % 8) - m in
     let w = c.window-w.result in
@@ -33,14 +33,14 @@ written : (xs : List ℕ) (m s v w : ℕ) → m ≤ 16 → w < 2 ^ 24 → v < 2 
     → (w - old_part m ((24 - s % 8) - m) w) + new_part ((24 - s % 8) - m) v ≡ replaced (gather (bit_at xs) (8 * (s / 8)) 24) m ((24 - s % 8) - m) v
 written xs m s v w h l k e = code_is m ((24 - s % 8) - m) w v h (omega arith) l k ∙ ap (λ x. replaced x m ((24 - s % 8) - m) v) e
 
-pub overflow-add-w : goal.overflow-add-w
-overflow-add-w c =
+pub overflow_add-w : goal.overflow_add-w
+overflow_add-w c =
     let l = put_below c.args.bytes.now c.args.m c.args.s c.args.v (omega arith) (omega arith) (omega arith) (omega arith) in
     let e = written c.args.bytes.now c.args.m c.args.s c.args.v c.window-w.result (omega arith) (omega arith) (omega arith) c.window-w.ensures.value in
     omega arith
 
-pub set-window-requires : goal.set-window-requires
-set-window-requires c =
+pub set_window-requires : goal.set_window-requires
+set_window-requires c =
     let l = put_below c.args.bytes.now c.args.m c.args.s c.args.v (omega arith) (omega arith) (omega arith) (omega arith) in
     let e = written c.args.bytes.now c.args.m c.args.s c.args.v c.window-w.result (omega arith) (omega arith) (omega arith) c.window-w.ensures.value in
     (omega arith, omega arith)
@@ -52,7 +52,7 @@ returns c =
     let s = c.args.s in
     let v = c.args.v in
     let e = written xs m s v c.window-w.result (omega arith) (omega arith) (omega arith) c.window-w.ensures.value in
-    let f = c.set-window.ensures ∙ ap (with_window xs (s / 8)) e in
+    let f = c.set_window.ensures ∙ ap (with_window xs (s / 8)) e in
     let h : m ≤ 16 = omega arith in
     let i : s + m ≤ 8 * length xs = omega arith in
     let j : 1 ≤ m = omega arith in

@@ -4,8 +4,8 @@ use Rattle.std.proofs.lemmas.Nat.{one_shl, and_mask, and_le_r, pow_pos}
 use Rattle.shelf.proofs.Windows.{symbol_in}
 use Rattle.shelf.proofs.bits.symbol.Goals as goal
 
-pub overflow-cast-result : goal.overflow-cast-result
-overflow-cast-result c =
+pub overflow_cast-result : goal.overflow_cast-result
+overflow_cast-result c =
     let m = c.args.m in
     let h : m ≤ 16 = omega arith in
     let x = c.window.result / 2 ^ ((24 - c.args.s % 8) - m) in

@@ -3,8 +3,8 @@ use Rattle.shelf.proofs.Codes.{below_at}
 use Rattle.shelf.proofs.Wholes.{byte_more}
 use Rattle.shelf.proofs.packed_bytes.write_bytes.Goals as goal
 
-pub overflow-cast-bytes : goal.overflow-cast-bytes
-overflow-cast-bytes c = let b = below_at 256 c.args.cells.now c.loop-j.j c.requires.1 (omega arith) in omega arith
+pub overflow_cast-bytes : goal.overflow_cast-bytes
+overflow_cast-bytes c = let b = below_at 256 c.args.cells.now c.loop-j.j c.requires.1 (omega arith) in omega arith
 
 pub loop-j-preserved : goal.loop-j-preserved
 loop-j-preserved c =

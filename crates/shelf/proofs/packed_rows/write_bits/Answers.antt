@@ -5,8 +5,8 @@ use Rattle.shelf.proofs.Packing.{bit_small, symbols_more}
 use Rattle.shelf.proofs.Index.{next, line_before}
 use Rattle.shelf.proofs.packed_rows.write_bits.Goals as goal
 
-pub set-symbol-requires : goal.set-symbol-requires
-set-symbol-requires c =
+pub set_symbol-requires : goal.set_symbol-requires
+set_symbol-requires c =
     let m = c.args.m in
     let p = c.args.start + c.loop-j.j in
     let l = bit_small p m (omega arith) (omega arith) in
@@ -23,8 +23,8 @@ loop-j-preserved c =
     let a : (c.args.start + (c.loop-j.j + 1)) * m ≡ (p + 1) * m = ap (λ t. t * m) (omega arith) in
     let e = c.loop-j.invariant.0 in (
       omega arith,
-      symbols_more c.args.bytes.now c.loop-j.bytes c.set-symbol.new.bytes m c.args.start c.loop-j.j (get_or c.args.cells.now c.loop-j.j 0) (λ j. get_or c.args.cells.now j 0) c.loop-j.invariant.1
-          (ap (λ s. gather (bit_at c.set-symbol.new.bytes) s m) (sym e) ∙ c.set-symbol.ensures.here)
-          (λ k h. c.set-symbol.ensures.below k (omega arith))
-          (λ k h. c.set-symbol.ensures.above k (omega arith)) refl,
+      symbols_more c.args.bytes.now c.loop-j.bytes c.set_symbol.new.bytes m c.args.start c.loop-j.j (get_or c.args.cells.now c.loop-j.j 0) (λ j. get_or c.args.cells.now j 0) c.loop-j.invariant.1
+          (ap (λ s. gather (bit_at c.set_symbol.new.bytes) s m) (sym e) ∙ c.set_symbol.ensures.here)
+          (λ k h. c.set_symbol.ensures.below k (omega arith))
+          (λ k h. c.set_symbol.ensures.above k (omega arith)) refl,
     )

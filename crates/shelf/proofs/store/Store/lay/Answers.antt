@@ -12,12 +12,12 @@ use Rattle.shelf.proofs.store.Store.lay.Goals as goal
 
 pub holds-requires : goal.holds-requires
 holds-requires g c =
-    let l = limits_from c.args.boxes c.args.rows c.args.width c.args.bits (sym c.if-not-in-limits.ensures) in
+    let l = limits_from c.args.boxes c.args.rows c.args.width c.args.bits (sym c.if-not-in_limits.ensures) in
     (l.3.0, l.3.1, size_small c.args.boxes c.args.rows c.args.width l.0 l.1.1 l.2.1)
 
 pub wipe-requires : goal.wipe-requires
 wipe-requires g c =
-    let l = limits_from c.args.boxes c.args.rows c.args.width c.args.bits (sym c.if-not-in-limits.ensures) in
+    let l = limits_from c.args.boxes c.args.rows c.args.width c.args.bits (sym c.if-not-in_limits.ensures) in
     let n = size_small c.args.boxes c.args.rows c.args.width l.0 l.1.1 l.2.1 in
     let h = leb-true _ _ (sym c.if-not-holds.ensures) in
     (l.3.0, l.3.1, omega arith, omega arith)
@@ -29,7 +29,7 @@ returns g c =
     let bits = c.args.bits in
     let size = (c.args.boxes * c.args.rows) * c.args.width in
     let w : Shape = record { boxes = c.args.boxes; rows = c.args.rows; width = c.args.width; bits = bits } in
-    let i = sym c.if-not-in-limits.ensures in
+    let i = sym c.if-not-in_limits.ensures in
     let h : leb size (g.M.Memory.room s.memory bits) ≡ true = sym c.if-not-holds.ensures in
     let r : g.M.Memory.room m bits ≡ g.M.Memory.room s.memory bits = c.wipe.ensures.same bits in
     let l = limits_from c.args.boxes c.args.rows c.args.width bits i in
