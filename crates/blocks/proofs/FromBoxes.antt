@@ -4,7 +4,7 @@ use lib.Arith.{digits_div, digits_mod}
 use Rattle.std.proofs.lemmas.Bool.{lt-ltb, le-ltb, cases_lt, cases_eq, eq-eqb, ne_eqb, cond-true, cond-false, and_from, and_left, and_right}
 use Rattle.field.specs.Laws.{Ops, Laws}
 use Rattle.algebra.specs.Poly.{sum, poly, Lagrange, Apart}
-use Rattle.algebra.proofs.Ring.{ring, add_zero, zero-mul, mul_comm}
+use Rattle.algebra.proofs.Ring.{ring, add_zero, zero_mul, mul_comm}
 use Rattle.algebra.proofs.Sum.{sum_none, sum_more, sum_cong, sum_zero, sum_split, sum_single}
 use Rattle.coder.proofs.Formulas.{chosen_lagrange}
 use Rattle.beehive.specs.declared.numbers.Numbers.{Numbers}
@@ -55,7 +55,7 @@ module _ {E : Type 0} {F : Ops E} (L : Laws F) where
         mul_comm L (closed_weight F (alpha N) (λ c. point F N (chosen_nodes N list c)) (virtuals N + a) l x r) (held a l)))
         (sum_zero L (tail N) (λ q. first_weight F N (chosen_point F N list) x r a (alpha N + q) ⊗ held a (alpha N + q))
         (λ q b. ap (λ v. v ⊗ held a (alpha N + q)) (cond-false (ltb (alpha N + q) (alpha N)) (row_weight F (alpha N) (chosen_point F N list) (virtuals N + a) (alpha N + q) x r) 𝟎 (le-ltb (alpha N + q) (alpha N) (omega arith))) ∙
-        zero-mul L (held a (alpha N + q)))) ∙
+        zero_mul L (held a (alpha N + q)))) ∙
         add_zero L _
 
     value : ℕ → E
@@ -65,12 +65,12 @@ module _ {E : Type 0} {F : Ops E} (L : Laws F) where
     unfolding value
     one_box_second r a h =
         sum_single L (beta N) (λ l. second_weight F N (chosen_point F N list) x r a l ⊗ held a l) r h
-        (λ l b ne. ap (λ v. v ⊗ held a l) (cond-false (eqb l r && ltb a (N.k - 1)) (value a) 𝟎 (and_left (eqb l r) (ltb a (N.k - 1)) (ne_eqb l r ne))) ∙ zero-mul L (held a l)) ∙
+        (λ l b ne. ap (λ v. v ⊗ held a l) (cond-false (eqb l r && ltb a (N.k - 1)) (value a) 𝟎 (and_left (eqb l r) (ltb a (N.k - 1)) (ne_eqb l r ne))) ∙ zero_mul L (held a l)) ∙
         ⊎_elim
         (λ b. ap (λ v. v ⊗ held a r) (cond-true (eqb r r && ltb a (N.k - 1)) (value a) 𝟎 (and_from (eqb r r) (ltb a (N.k - 1)) (eq-eqb r r refl) (lt-ltb a (N.k - 1) b))) ∙
         mul_comm L (value a) (held a r) ∙ sym (cond-true (ltb a (N.k - 1)) (held a r ⊗ value a) 𝟎 (lt-ltb a (N.k - 1) b)))
         (λ b. ap (λ v. v ⊗ held a r) (cond-false (eqb r r && ltb a (N.k - 1)) (value a) 𝟎 (and_right (eqb r r) (ltb a (N.k - 1)) (le-ltb a (N.k - 1) b))) ∙
-        zero-mul L (held a r) ∙ sym (cond-false (ltb a (N.k - 1)) (held a r ⊗ value a) 𝟎 (le-ltb a (N.k - 1) b)))
+        zero_mul L (held a r) ∙ sym (cond-false (ltb a (N.k - 1)) (held a r ⊗ value a) 𝟎 (le-ltb a (N.k - 1) b)))
         (cases_lt a (N.k - 1))
 
     first_row : (r : ℕ) → r < alpha N → sum F N.k (λ a. sum F (beta N) (λ l. row_from F N (chosen_point F N list) x r a l ⊗ held a l)) ≡ blocks (node N i) r
@@ -170,7 +170,7 @@ module _ {E : Type 0} {F : Ops E} (L : Laws F) where
   load_makes N suits blocks original lawful holds i r box h =
       sum_cong F (data_rows N) (λ e. from_boxes F N suc i r e ⊗ original e) term (λ e l. ap (F.mul (from_boxes F N suc i r e)) (sym (data_row N blocks original holds e l))) ∙
       sym (add_zero L (sum F (data_rows N) term)) ∙
-      ap (F.add (sum F (data_rows N) term)) (sym (sum_zero L (tail N) (λ m. term (data_rows N + m)) (λ m l. ap (λ v. v ⊗ held (data_rows N + m)) (last_zero N suc i r m l) ∙ zero-mul L (held (data_rows N + m))))) ∙
+      ap (F.add (sum F (data_rows N) term)) (sym (sum_zero L (tail N) (λ m. term (data_rows N + m)) (λ m l. ap (λ v. v ⊗ held (data_rows N + m)) (last_zero N suc i r m l) ∙ zero_mul L (held (data_rows N + m))))) ∙
       sym (sum_split L (data_rows N) (tail N) term) ∙
       ap (λ n. sum F n term) (sym (all_rows N)) ∙
       row_made N suits suc ((λ a l. (omega arith, omega arith)), (λ a b l m e. omega arith)) blocks lawful i box r h

@@ -19,8 +19,8 @@ returns g c =
     let ws = c.fill_pairs.new.pairs in
     let m : length ps ≡ suc (alpha n) = c.requires.0 in
     let h : c.needed.result * length ps ≡ n.k * suc (alpha n) = ap₂ (◌*◌) c.needed.ensures m in
-    let a = c.split_at_mut-row.ensures.front-len ∙ c.alpha.ensures in
-    let b = c.split_at_mut-pairs.ensures.front-len in
+    let a = c.split_at_mut-row.ensures.front_len ∙ c.alpha.ensures in
+    let b = c.split_at_mut-pairs.ensures.front_len in
     record {
       made = λ e l. c.fill_first.ensures.made e l ∙
           ap (λ m. grid_sum F m (entry F ps) (entry F ws) (alpha n) (e / beta n) (e % beta n)) m ∙

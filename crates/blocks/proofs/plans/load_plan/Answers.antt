@@ -11,7 +11,7 @@ returns g c =
     let n = c.args.numbers.now in
     let h = c.if-not-fits_plan.ensures.0 refl in
     let e : c.needed.result * c.beta.result ≡ n.k * beta n = ap₂ (◌*◌) c.needed.ensures c.beta.ensures in
-    let m = c.split_at_mut-points.ensures.front-len ∙ c.point_count.ensures in (
+    let m = c.split_at_mut-points.ensures.front_len ∙ c.point_count.ensures in (
       (omega arith, h.1),
       planned_boxes F n suc c.args.to c.args.row (entry F c.fill_first_points.new.points) c.box_point.result c.args.plan.now c.row_over.new.plan
           (λ k l. c.fill_first_points.ensures k (omega arith)) c.box_point.ensures c.row_over.ensures,

@@ -20,7 +20,7 @@ loop-i-preserved g c =
     let ps = c.args.points.now in
     let hs = c.args.helpers.now in
     let i = c.loop-i.i in
-    let m : length ps ≡ alpha n + alpha n = c.requires.0.1.0 in
+    let m : length ps ≡ alpha n + alpha n = c.requires.d_in_bounds.1.0 in
     let a = F.add (mu F n (node n (listed hs i))) (mu F n (node n c.args.j)) in
     let x = point F n (node n c.args.e) in
     let ei : c.helpers-count.result ≡ n.d = c.helpers-count.ensures in
@@ -28,7 +28,7 @@ loop-i-preserved g c =
     (c.pass_cell.ensures ∙ ap₂ (λ r m. F.mul r (F.mul a (poly F m (lagrange F m (entry F ps) (virtuals n + i)) x))) c.mu_inverse-ratio.ensures m ∙
     ap (λ v. F.mul (F.inv (F.add (mu F n (node n c.args.e)) (mu F n (node n c.args.j)))) (F.mul a v))
     (poly_cong F (alpha n + alpha n) (lagrange F (alpha n + alpha n) (entry F ps) (virtuals n + i)) (helper_poly F n (listed hs) i) x
-    (λ k l. lagrange_same F (alpha n + alpha n) (entry F ps) (chosen_point F n (listed hs)) c.requires.1 (virtuals n + i) k (omega arith))))
+    (λ k l. lagrange_same F (alpha n + alpha n) (entry F ps) (chosen_point F n (listed hs)) c.requires.same (virtuals n + i) k (omega arith))))
     c.loop-i.invariant
 
 pub returns : goal.returns

@@ -20,11 +20,11 @@ returns g c =
     let i = c.args.i in
     let k = c.args.k in
     let f = c.lagrange_row.new.row in
-    let m : length ps ≡ alpha n + alpha n = c.requires.0.1.1.0 in
-    let ml : length c.args.line.now ≡ alpha n + alpha n = c.requires.0.1.1.1 in
+    let m : length ps ≡ alpha n + alpha n = c.requires.i_lt_d.1.1.0 in
+    let ml : length c.args.line.now ≡ alpha n + alpha n = c.requires.i_lt_d.1.1.1 in
     let at : (q : ℕ) → q < alpha n + alpha n → entry F f q ≡ helper_poly F n hs i q =
     λ q l. c.lagrange_row.ensures q (omega arith) ∙ ap₂ (λ a m. cut_lagrange F a m (entry F ps) (c.virtuals.result + i) q) ml m ∙ ap (λ v. lagrange F (alpha n + alpha n) (entry F ps) (v + i) q) c.virtuals.ensures ∙
-    lagrange_same F (alpha n + alpha n) (entry F ps) (chosen_point F n hs) c.requires.1 (virtuals n + i) q (omega arith) in
+    lagrange_same F (alpha n + alpha n) (entry F ps) (chosen_point F n hs) c.requires.same (virtuals n + i) q (omega arith) in
     c.joined_halves.ensures ∙
     ap₂ (λ a u. F.mul a (F.add (entry F f k) (F.mul u (entry F f (c.alpha.result + k))))) c.helper_sum.ensures c.box_mu.ensures ∙
     ap (λ h. F.mul (F.add (mu F n (node n (hs i))) (mu F n (node n c.args.j))) (F.add (entry F f k) (F.mul (mu F n (node n c.args.j)) (entry F f (h + k))))) c.alpha.ensures ∙
