@@ -1,4 +1,5 @@
 // What is printed of each task.
+use anyhow::anyhow;
 use field::Field;
 use gateways::{Trouble, spread};
 use std::fmt;
@@ -48,9 +49,9 @@ pub(crate) fn batch_record<F: Field>(
 
 fn explained(trouble: Trouble) -> anyhow::Error {
     match trouble {
-        Trouble::Memory => "no memory".into(),
-        Trouble::Symbol => "a symbol of the record is no code of the field".into(),
-        Trouble::Gateway(_) => "there is no such gateway".into(),
-        Trouble::Answers => "the gateways that answer do not fix the record".into(),
+        Trouble::Memory => anyhow!("no memory"),
+        Trouble::Symbol => anyhow!("a symbol of the record is no code of the field"),
+        Trouble::Gateway(_) => anyhow!("there is no such gateway"),
+        Trouble::Answers => anyhow!("the gateways that answer do not fix the record"),
     }
 }

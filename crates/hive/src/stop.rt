@@ -1,4 +1,5 @@
 // Why a task stops before its end.
+use anyhow::anyhow;
 use refusal::Denial;
 use std::alloc::AllocError;
 
@@ -6,7 +7,9 @@ use std::alloc::AllocError;
 pub(crate) enum Stop {
     // There is no memory.
     Memory,
-    // The stripe's numbers or a plan were refused.
+    // The memory for a plan is too short.
+    Room,
+    // The stripe's numbers were refused.
     Denied(Denial),
 }
 
@@ -25,9 +28,14 @@ impl From<Denial> for Stop {
 impl Stop {
     pub(crate) fn explained(self) -> anyhow::Error {
         match self {
-            Stop::Memory => "no memory".into(),
-            Stop::Denied(Denial::Length) => "the memory for a plan is too short".into(),
-            Stop::Denied(_) => "the numbers are outside the limits".into(),
+            Stop::Memory => anyhow!("no memory"),
+            Stop::Room => anyhow!("the memory for a plan is too short"),
+            Stop::Denied(_) => anyhow!("the numbers are outside the limits"),
         }
     }
+}
+
+// What a plan's answer means for a task: it goes on where there was memory for the plan.
+pub(crate) fn planned(made: bool) -> Result<(), Stop> {
+    if made { Ok(()) } else { Err(Stop::Room) }
 }

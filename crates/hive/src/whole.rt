@@ -2,7 +2,7 @@
 // segments, the lost blocks are settled, and the data are read back from boxes that include the settled ones.
 use crate::memory::{Memory, add_rows, push_sum, zeros};
 use crate::rows::Rows;
-use crate::stop::Stop;
+use crate::stop::{Stop, planned};
 use beehive::Numbers;
 use blocks::{load_plan, read_plan};
 use field::Field;
@@ -75,7 +75,7 @@ fn load<F: Field>(
     let mut blocks = Rows::new(heap, numbers.width());
     for at in &task.boxes {
         for row in 0..numbers.beta() {
-            load_plan::<F>(numbers, *at, row, &mut memory.plan, &mut memory.room)?;
+            planned(load_plan::<F>(numbers, *at, row, &mut memory.plan, &mut memory.room))?;
             push_sum::<F>(
                 heap,
                 &memory.plan,
@@ -98,7 +98,7 @@ fn help<F: Field>(
     let mut helps = Rows::new(heap, numbers.width());
     for about in &task.newcomers {
         for from in &task.helpers {
-            help_plan::<F>(numbers, *from, *about, &mut memory.plan)?;
+            planned(help_plan::<F>(numbers, *from, *about, &mut memory.plan))?;
             push_sum::<F>(
                 heap,
                 &memory.plan,
@@ -123,14 +123,14 @@ fn pass<F: Field>(
     for (i, to) in task.newcomers.iter().enumerate() {
         for (j, from) in task.newcomers.iter().enumerate() {
             if i != j {
-                pass_plan::<F>(
+                planned(pass_plan::<F>(
                     numbers,
                     *from,
                     *to,
                     &task.helpers,
                     &mut memory.plan,
                     &mut memory.room,
-                )?;
+                ))?;
                 push_sum::<F>(
                     heap,
                     &memory.plan,
@@ -158,7 +158,7 @@ fn settle<F: Field>(
     let others = all_but(heap, &task.newcomers, i)?;
     let d = numbers.helpers();
     for row in 0..numbers.beta() {
-        settle_plan::<F>(
+        planned(settle_plan::<F>(
             numbers,
             at,
             &task.helpers,
@@ -166,7 +166,7 @@ fn settle<F: Field>(
             row,
             &mut memory.plan,
             &mut memory.room,
-        )?;
+        ))?;
         let mut sum = zeros(heap, numbers.width())?;
         add_rows::<F>(&memory.plan, 0, d, &task.helps, i.wrapping_mul(d), &mut sum);
         add_rows::<F>(
@@ -219,14 +219,14 @@ fn read<F: Field>(
     let beta = numbers.beta();
     for e in 0..numbers.data_rows() {
         let to = (e / beta % 16 + 1) as u16;
-        read_plan::<F>(
+        planned(read_plan::<F>(
             numbers,
             &task.from,
             to,
             e % beta,
             &mut memory.plan,
             &mut memory.room,
-        )?;
+        ))?;
         let count = memory.plan.len();
         push_sum::<F>(heap, &memory.plan, count, &sources, 0, &mut data)?;
     }
