@@ -1,9 +1,9 @@
 -- The sum of values times Lagrange polynomials, one term at a time.
-use Rattle.std.proofs.Common.{◌≡◌, ℕ, zero, suc, ◌+◌, ◌<◌, ◌≤◌, ◌⊎◌, sym, refl, ap, ◌∙◌, ap₂, inl, inr, add-one, arith, below_more}
+use Rattle.std.proofs.Common.{◌≡◌, ℕ, ◌+◌, ◌<◌, ◌≤◌, ◌⊎◌, sym, ap, ◌∙◌, ap₂, inl, inr, add-one, arith, below_more}
 use Rattle.std.proofs.lemmas.Bool.{cases_eq}
 use Rattle.field.specs.Laws.{Ops, Laws}
 use Rattle.algebra.specs.Poly.{Apart, Same, sum, poly, plus, unit, OneAt, Through}
-use Rattle.algebra.proofs.Ring.{ring, add_zero, zero_add, mul_zero, mul_one}
+use Rattle.algebra.proofs.Ring.{ring}
 use Rattle.algebra.proofs.Sum.{sum_none, sum_more, unit_same, unit_other}
 use Rattle.algebra.proofs.Poly.{poly_cong, poly_zero, poly_scaled}
 use Rattle.algebra.proofs.Interpolation.{uniqueness, interpolation, basis, basis_lagrange}

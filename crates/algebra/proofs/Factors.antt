@@ -1,11 +1,11 @@
 -- The product of the factors X + p c: its value and its degree.
-use Rattle.std.proofs.Common.{◌≡◌, ℕ, zero, suc, ◌<◌, ◌≤◌, Bool, true, false, cond, not, eqb, ◌⊎◌, sym, refl, ap, ◌∙◌, ap₂, inl, inr, arith}
-use Rattle.std.proofs.lemmas.Bool.{eq-eqb, ne_eqb, cases_eq, cases_Bool, cond-true, cond-false, not_from_true, not_from_false}
+use Rattle.std.proofs.Common.{◌≡◌, ℕ, zero, suc, ◌<◌, Bool, true, false, ◌⊎◌, sym, refl, ap, ◌∙◌, ap₂, inl, inr, arith}
+use Rattle.std.proofs.lemmas.Bool.{cases_eq, cases_Bool, cond-true, cond-false}
 use Rattle.field.specs.Laws.{Ops, Laws}
-use Rattle.algebra.specs.Poly.{count, product, poly, power, unit, before, times, factors}
-use Rattle.algebra.proofs.Ring.{ring, add_zero, zero_add, mul_zero, zero_mul, mul_nonzero, zero_one}
+use Rattle.algebra.specs.Poly.{count, product, poly, unit, before, times, factors}
+use Rattle.algebra.proofs.Ring.{ring, mul_zero, zero_mul, mul_nonzero, zero_one}
 use Rattle.algebra.proofs.Sum.{unit_same, unit_other}
-use Rattle.algebra.proofs.Poly.{poly_cong, poly_unit, poly_times_low, power_none}
+use Rattle.algebra.proofs.Poly.{poly_unit, poly_times_low, power_none}
 
 pub count_kept : (keep : ℕ → Bool) (n : ℕ) → keep n ≡ true → count keep (suc n) ≡ suc (count keep n)
 unfolding count

@@ -1,10 +1,10 @@
 -- Lagrange's polynomials exist, and give the polynomial through any values; it is the only one.
-use Rattle.std.proofs.Common.{◌≡◌, ℕ, zero, suc, ◌<◌, ◌≤◌, Bool, true, false, cond, not, ◌&&◌, eqb, ◌⊎◌, sym, refl, ap, ◌∙◌, ap₂, inl, inr, arith}
+use Rattle.std.proofs.Common.{◌≡◌, ℕ, zero, suc, ◌<◌, ◌≤◌, true, false, cond, not, eqb, ◌⊎◌, sym, ap, ◌∙◌, inl, inr, arith}
 use Rattle.std.proofs.lemmas.Bool.{eq-eqb, ne_eqb, cases_eq, and_from, and_left, and_right, not_from_true, not_from_false}
 use Rattle.field.specs.Laws.{Ops, Laws}
-use Rattle.algebra.specs.Poly.{count, sum, product, poly, power, unit, factors, besides, mix, Apart, Same, Through, Lagrange, Inverse, Existence, Uniqueness, Interpolation, Vandermonde}
-use Rattle.algebra.proofs.Ring.{ring, add_zero, zero_add, add_self, mul_zero, mul_one, mul_comm, eq_of_add, add_of_eq, inv_mul}
-use Rattle.algebra.proofs.Sum.{sum_cong, sum_single, unit_same, unit_other}
+use Rattle.algebra.specs.Poly.{count, product, poly, power, unit, factors, besides, mix, Apart, Through, Lagrange, Existence, Uniqueness, Interpolation, Vandermonde}
+use Rattle.algebra.proofs.Ring.{add_self, mul_zero, mul_one, eq_of_add, add_of_eq, inv_mul}
+use Rattle.algebra.proofs.Sum.{sum_single, unit_same, unit_other}
 use Rattle.algebra.proofs.Poly.{poly_is, poly_cong, poly_add, poly_mul, poly_mix, poly_unit}
 use Rattle.algebra.proofs.Roots.{root_count}
 use Rattle.algebra.proofs.Factors.{count_kept, count_left, count_none, product_zero, product_nonzero, factors_value}

@@ -3,8 +3,8 @@ use Rattle.std.proofs.Common.{◌≡◌, ℕ, zero, suc, ◌+◌, ◌-◌, ◌<�
 use mathlib.Core.Path.{◌≡⟨◌⟩◌, ◌∎}
 use Rattle.field.specs.Laws.{Ops, Laws}
 use Rattle.algebra.specs.Poly.{sum, power, poly, unit, before, times, Same}
-use Rattle.algebra.proofs.Ring.{ring, add_zero, zero_mul, mul_comm, mul_assoc, mul_nonzero, zero_one, one_mul}
-use Rattle.algebra.proofs.Sum.{sum_none, sum_more, sum_cong, sum_zero, sum_add, mul_sum, sum_front, sum_split, sum_swap, sum_single, unit_same, unit_other}
+use Rattle.algebra.proofs.Ring.{ring, add_zero, zero_mul, mul_assoc, mul_nonzero, zero_one, one_mul}
+use Rattle.algebra.proofs.Sum.{sum_none, sum_more, sum_cong, sum_zero, mul_sum, sum_split, sum_single, unit_same, unit_other}
 
 module _ {E : Type 0} (F : Ops E) where
   pub power_none : (x : E) → power F x 0 ≡ F.one

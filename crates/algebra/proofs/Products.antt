@@ -1,6 +1,6 @@
 -- A loop that multiplies by one factor at a time, and a list of points that is gone through for repeated ones.
-use Rattle.std.proofs.Common.{◌≡◌, ℕ, zero, suc, ◌+◌, ◌<◌, ◌≤◌, Bool, true, false, cond, List, length, get_or, sym, refl, ap, ◌∙◌, ap₂, add-one, arith}
-use Rattle.field.specs.Laws.{Ops, Laws}
+use Rattle.std.proofs.Common.{◌≡◌, ℕ, zero, suc, ◌+◌, ◌<◌, Bool, true, false, List, length, get_or, sym, refl, ap, ◌∙◌, ap₂, add-one, arith}
+use Rattle.field.specs.Laws.{Ops}
 use Rattle.algebra.specs.Poly.{Apart, Same, before, times, factors}
 use Rattle.algebra.specs.Cells.{entry}
 use Rattle.algebra.proofs.Writes.{read}

@@ -2,7 +2,7 @@
 use Rattle.std.proofs.Common.{◌≡◌, ℕ, zero, suc, ◌<◌, ◌≤◌, List, [], ◌∷◌, length, sym, refl, ap, ◌∙◌, ap₂, arith}
 use mathlib.Core.Path.{◌≡⟨◌⟩◌, ◌∎}
 use Rattle.field.specs.Laws.{Ops, Laws}
-use Rattle.algebra.specs.Poly.{poly, Apart, Same, RootCount}
+use Rattle.algebra.specs.Poly.{poly, Apart, RootCount}
 use Rattle.algebra.proofs.Ring.{ring, add_self, eq_of_add, cancel}
 use Rattle.algebra.proofs.Poly.{poly_none, poly_front}
 

@@ -1,5 +1,5 @@
 -- The steps of the solver.
-use Rattle.std.proofs.Common.{◌≡◌, ℕ, zero, suc, ◌+◌, ◌-◌, ◌*◌, ◌<◌, ◌≤◌, List, ◌++◌, length, get_or, take, drop, sym, refl, ap, ◌∙◌, subst, ap₂, ⊎_elim, mul-le-mul_right, suc-mul, arith, length-take-le, below_more}
+use Rattle.std.proofs.Common.{◌≡◌, ℕ, ◌+◌, ◌-◌, ◌*◌, ◌<◌, ◌≤◌, List, ◌++◌, length, get_or, take, drop, sym, refl, ap, ◌∙◌, ap₂, ⊎_elim, mul-le-mul_right, suc-mul, arith, length-take-le, below_more}
 use borrow.Rule.Slice.PartMut.{put_mid, post_of}
 use Rattle.std.proofs.lemmas.List.{get_or_append_left, get_or-append_right, get_or-take, get_or-drop}
 use Rattle.std.proofs.lemmas.Bool.{cases_lt}
@@ -7,7 +7,7 @@ use Rattle.field.specs.Laws.{Ops, Laws}
 use Rattle.algebra.specs.Poly.{Apart, Same, poly, product, factors, besides, scaled, OneAt}
 use Rattle.algebra.specs.Cells.{entry, matrix}
 use Rattle.algebra.specs.Solutions.{Solved}
-use Rattle.algebra.proofs.Ring.{ring, add_self, mul_zero, inv_mul}
+use Rattle.algebra.proofs.Ring.{add_self, mul_zero, inv_mul}
 use Rattle.algebra.proofs.Poly.{poly_cong, poly_mul}
 use Rattle.algebra.proofs.Factors.{product_zero, factors_value}
 use Rattle.algebra.proofs.Interpolation.{besides_in, count_besides, rest_nonzero}

@@ -1,10 +1,9 @@
 -- Bounded sums.
-use Rattle.std.proofs.Common.{◌≡◌, ℕ, zero, suc, ◌+◌, ◌<◌, ◌≤◌, Bool, true, false, cond, eqb, ◌⊎◌, sym, refl, ap, ◌∙◌, ap₂, inl, inr, add-zero as plus_zero, add-suc, arith}
-use mathlib.Core.Path.{◌≡⟨◌⟩◌, ◌∎}
+use Rattle.std.proofs.Common.{◌≡◌, ℕ, zero, suc, ◌+◌, ◌<◌, eqb, ◌⊎◌, sym, refl, ap, ◌∙◌, ap₂, inl, inr, add-zero as plus_zero, add-suc, arith}
 use Rattle.std.proofs.lemmas.Bool.{eq-eqb, ne_eqb, cases_eq, cond-true, cond-false}
 use Rattle.field.specs.Laws.{Ops, Laws}
 use Rattle.algebra.specs.Poly.{sum, unit}
-use Rattle.algebra.proofs.Ring.{ring, add_zero, zero_add, mul_zero}
+use Rattle.algebra.proofs.Ring.{ring, add_zero, zero_add}
 
 module _ {E : Type 0} (F : Ops E) where
   pub sum_none : (f : ℕ → E) → sum F 0 f ≡ F.zero

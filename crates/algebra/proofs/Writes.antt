@@ -1,5 +1,5 @@
 -- A loop that writes a list from its front: what it holds after n turns.
-use Rattle.std.proofs.Common.{◌≡◌, ℕ, zero, suc, ◌+◌, ◌-◌, ◌<◌, ◌≤◌, ◌≢◌, List, [], ◌∷◌, length, get_or, set, sym, refl, ap, ◌∙◌, ap₂, add-zero as plus_zero, zero-add as plus_none, add-one, arith, get_or-set_other, get_or-set_same, below_more}
+use Rattle.std.proofs.Common.{◌≡◌, ℕ, zero, suc, ◌+◌, ◌-◌, ◌<◌, ◌≤◌, ◌≢◌, List, [], ◌∷◌, length, get_or, set, sym, refl, ap, ◌∙◌, ap₂, add-zero as plus_zero, zero-add as plus_none, arith, get_or-set_other, get_or-set_same, below_more}
 use lib.ListN.{get_or-eq_default}
 use Rattle.field.specs.Laws.{Ops, Laws}
 use Rattle.algebra.specs.Poly.{poly, plus}

@@ -1,6 +1,6 @@
 -- Sums, powers, products and polynomials over a field. A vector is a function from ℕ of which the first values count,
 -- and a polynomial of n coefficients is the vector of them, the lowest first.
-use Rattle.std.specs.Prelude.{◌≡◌, ℕ, zero, suc, ◌+◌, ◌<◌, ◌≤◌, Bool, cond, not, ◌&&◌, ◌==◌, ◌≢◌}
+use Rattle.std.specs.Prelude.{◌≡◌, ℕ, zero, suc, ◌<◌, ◌≤◌, Bool, cond, not, ◌&&◌, ◌==◌, ◌≢◌}
 use Rattle.field.specs.Laws.{Ops}
 
 -- The first m of the points are pairwise different.

@@ -4,7 +4,7 @@ use Rattle.field.specs.Laws.{Ops}
 use Rattle.algebra.specs.declared.grid.Grid.{Grid}
 use Rattle.algebra.specs.declared.solver.Unsolved.{Unsolved}
 use Rattle.algebra.specs.declared.solver.Unsolved.TheVariants.{Room, Values, Repeated}
-use Rattle.algebra.specs.Poly.{Apart, OneAt, Lagrange, Through, poly}
+use Rattle.algebra.specs.Poly.{Apart, Lagrange, Through, poly}
 use Rattle.algebra.specs.Cells.{entry, matrix}
 
 -- The grid has m rows and m columns, or more, and its memory has room for it.

@@ -1,5 +1,5 @@
 -- The closed forms for lawful blocks: each node's rows as sums over the rows of any α + 1 nodes (first parts) or α nodes (second parts).
-use Rattle.std.proofs.Common.{◌≡◌, ℕ, zero, suc, ◌+◌, ◌-◌, ◌<◌, sym, ap, ◌∙◌, arith}
+use Rattle.std.proofs.Common.{◌≡◌, ℕ, suc, ◌+◌, ◌-◌, ◌<◌, sym, ap, ◌∙◌, arith}
 use Rattle.field.specs.Laws.{Ops, Laws}
 use Rattle.algebra.specs.Poly.{sum, power, poly, Apart, Same, Lagrange}
 use Rattle.algebra.proofs.Ring.{ring, zero_add, zero_mul}

@@ -1,8 +1,8 @@
 -- Where the field has more elements than there are nodes, the points differ, since their codes do.
-use Rattle.std.proofs.Common.{◌≡◌, ℕ, ◌+◌, ◌^◌, ◌<◌, ◌≤◌, sym, ap, ◌∙◌, mod-eq_of_lt, arith}
+use Rattle.std.proofs.Common.{◌≡◌, ℕ, sym, ap, ◌∙◌, mod-eq_of_lt, arith}
 use Rattle.field.specs.Laws.{Ops, Laws}
 use Rattle.beehive.specs.declared.numbers.Numbers.{Numbers}
-use Rattle.beehive.specs.Numbers.{boxes, virtuals, Node}
+use Rattle.beehive.specs.Numbers.{Node}
 use Rattle.beehive.specs.Points.{point, Enough, MusDiffer, Suits}
 
 module _ {E : Type 0} {F : Ops E} (L : Laws F) (N : Numbers) where

@@ -1,5 +1,5 @@
 -- The parts of lawful blocks as values of polynomials, and the segments about one node: they are aligned.
-use Rattle.std.proofs.Common.{◌≡◌, ℕ, zero, sym, ap, ◌∙◌, ap₂}
+use Rattle.std.proofs.Common.{◌≡◌, ℕ, sym, ap, ◌∙◌, ap₂}
 use mathlib.Core.Path.{◌≡⟨◌⟩◌, ◌∎}
 use Rattle.field.specs.Laws.{Ops, Laws}
 use Rattle.algebra.specs.Poly.{sum, poly, Same}

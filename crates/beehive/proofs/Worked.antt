@@ -1,6 +1,5 @@
 -- The figures: explicit matrices give a lawful list for the data, so by uniqueness every lawful list shows its symbols.
-use Rattle.std.proofs.Common.{◌≡◌, ℕ, zero, suc, ◌+◌, ◌-◌, ◌*◌, ◌^◌, ◌<◌, ◌≤◌, Bool, true, false, cond, not, ◌&&◌, T, eqb, ltb, List, [], ◌∷◌, get_or, sym, refl, ap, ◌∙◌, subst, ap₂, arith, lit<, eqb→eq, le-ltb, lt-ltb}
-use lib.Bits.{bit_xor}
+use Rattle.std.proofs.Common.{◌≡◌, ℕ, zero, suc, ◌+◌, ◌-◌, ◌*◌, ◌<◌, Bool, true, false, cond, T, eqb, ltb, List, [], ◌∷◌, get_or, sym, refl, ap, ◌∙◌, subst, ap₂, arith, lit<, eqb→eq, le-ltb, lt-ltb}
 use lib.Dec.{eqb_refl}
 use Rattle.field.specs.Laws.{Ops, Laws}
 use Rattle.field.specs.Polynomials.{carryless, remainder, product, squares, inverse}
@@ -10,9 +9,9 @@ use Rattle.field.specs.Moduli.{nibble_laws, byte_laws}
 use Rattle.algebra.specs.Poly.{sum, power}
 use Rattle.algebra.proofs.Sum.{sum_cong}
 use Rattle.beehive.specs.declared.numbers.Numbers.{Numbers}
-use Rattle.beehive.specs.Numbers.{alpha, tail, beta, boxes, virtuals, data_rows, tail_length, Box, Node, Virtual, node}
-use Rattle.beehive.specs.Points.{dot, powers, mu, Enough, MusDiffer, Suits}
-use Rattle.beehive.specs.Rule.{Symmetric, phi_times, Lawful, Holds, SameBlocks, first, second, segment}
+use Rattle.beehive.specs.Numbers.{alpha, tail, beta, boxes, virtuals, data_rows, tail_length, Box, Virtual, node}
+use Rattle.beehive.specs.Points.{dot, powers, mu, MusDiffer, Suits}
+use Rattle.beehive.specs.Rule.{Symmetric, Lawful, Holds, SameBlocks, segment}
 use Rattle.beehive.specs.Matrices.{from_matrices}
 use Rattle.beehive.specs.Figures.{six_boxes, five_boxes, eight_rows, five_rows, LawfulList, Shows, Sends, Figures}
 use Rattle.beehive.proofs.Fitting.{suited}

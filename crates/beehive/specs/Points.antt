@@ -1,5 +1,5 @@
 -- The points of the nodes, and what is built from them. Everything else uses only that points differ and μ differ.
-use Rattle.std.specs.Prelude.{◌≡◌, ℕ, ◌+◌, ◌^◌, ◌<◌, ◌≤◌, Ok, Err, Result}
+use Rattle.std.specs.Prelude.{◌≡◌, ℕ, ◌+◌, ◌^◌, ◌<◌, Ok, Err, Result}
 use Rattle.refusal.specs.declared.Denial.{Denial}
 use Rattle.refusal.specs.declared.Denial.TheVariants.{Points}
 use Rattle.field.specs.Laws.{Ops}

@@ -1,5 +1,5 @@
 -- The code rule, for one symbol position; at w positions it holds at each by itself.
-use Rattle.std.specs.Prelude.{◌≡◌, ℕ, suc, ◌+◌, ◌*◌, ◌<◌, ◌≤◌}
+use Rattle.std.specs.Prelude.{◌≡◌, ℕ, suc, ◌+◌, ◌*◌, ◌<◌}
 use Rattle.field.specs.Laws.{Ops}
 use Rattle.beehive.specs.declared.numbers.Numbers.{Numbers}
 use Rattle.beehive.specs.Numbers.{alpha, tail, beta, data_rows, tail_length, Box, Node, Virtual, node}

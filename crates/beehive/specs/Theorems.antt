@@ -1,5 +1,5 @@
 -- What holds of the code rule over every field that suits the stripe's numbers.
-use Rattle.std.specs.Prelude.{◌≡◌, ℕ, suc, ◌+◌, ◌*◌, ◌<◌, ◌≤◌, ◌≢◌}
+use Rattle.std.specs.Prelude.{◌≡◌, ℕ, ◌<◌, ◌≢◌}
 use Rattle.field.specs.Laws.{Ops}
 use Rattle.algebra.specs.Poly.{Same}
 use Rattle.beehive.specs.declared.numbers.Numbers.{Numbers}

@@ -1,16 +1,16 @@
 -- The rows of k boxes of a lawful list, by the weights of the plan, make the rows of every box.
-use Rattle.std.proofs.Common.{◌≡◌, ℕ, zero, suc, ◌+◌, ◌-◌, ◌*◌, ◌/◌, ◌%◌, ◌<◌, ◌≤◌, Bool, true, false, cond, ◌&&◌, eqb, ltb, ◌⊎◌, sym, refl, ap, ◌∙◌, ap₂, inl, inr, ⊎_elim, mod-lt, suc-mul, div-add-mod', zero-mul as zero_times, mul-add as times_plus, arith}
+use Rattle.std.proofs.Common.{◌≡◌, ℕ, zero, suc, ◌+◌, ◌-◌, ◌*◌, ◌/◌, ◌%◌, ◌<◌, ◌≤◌, cond, ◌&&◌, eqb, ltb, sym, refl, ap, ◌∙◌, ap₂, ⊎_elim, mod-lt, suc-mul, div-add-mod', zero-mul as zero_times, mul-add as times_plus, arith}
 use lib.Arith.{digits_div, digits_mod}
-use Rattle.std.proofs.lemmas.Bool.{lt-ltb, le-ltb, cases_lt, cases_eq, eq-eqb, ne_eqb, cond-true, cond-false, and_from, and_left, and_right}
+use Rattle.std.proofs.lemmas.Bool.{lt-ltb, le-ltb, cases_lt, eq-eqb, ne_eqb, cond-true, cond-false, and_from, and_left, and_right}
 use Rattle.field.specs.Laws.{Ops, Laws}
-use Rattle.algebra.specs.Poly.{sum, poly, Lagrange, Apart}
-use Rattle.algebra.proofs.Ring.{ring, add_zero, zero_mul, mul_comm}
+use Rattle.algebra.specs.Poly.{sum, poly, Apart}
+use Rattle.algebra.proofs.Ring.{add_zero, zero_mul, mul_comm}
 use Rattle.algebra.proofs.Sum.{sum_none, sum_more, sum_cong, sum_zero, sum_split, sum_single}
 use Rattle.coder.proofs.Formulas.{chosen_lagrange}
 use Rattle.beehive.specs.declared.numbers.Numbers.{Numbers}
 use Rattle.beehive.specs.Numbers.{alpha, tail, beta, virtuals, data_rows, Box, node}
 use Rattle.beehive.specs.Points.{point, Suits}
-use Rattle.beehive.specs.Rule.{first, second, Lawful, Holds}
+use Rattle.beehive.specs.Rule.{Lawful, Holds}
 use Rattle.beehive.specs.Theorems.{Boxes}
 use Rattle.beehive.proofs.Nodes.{needed_less, box_node, fewer_boxes, points_apart, chosen_node, chosen_different, chosen as chosen_nodes}
 use Rattle.beehive.proofs.Pairs.{share_weight as closed_share}

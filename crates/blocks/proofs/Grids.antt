@@ -1,9 +1,9 @@
 -- The grid of pairs, summed up, gives the weights of rows; the weights of a row over the same points are the same.
-use Rattle.std.proofs.Common.{◌≡◌, ℕ, zero, suc, ◌+◌, ◌-◌, ◌*◌, ◌/◌, ◌%◌, ◌<◌, ◌≤◌, true, false, cond, ◌&&◌, eqb, ltb, ◌⊎◌, List, sym, refl, ap, ◌∙◌, ap₂, inl, inr, ⊎_elim, arith}
+use Rattle.std.proofs.Common.{◌≡◌, ℕ, suc, ◌+◌, ◌-◌, ◌*◌, ◌/◌, ◌%◌, ◌<◌, ◌≤◌, cond, ◌&&◌, eqb, ltb, List, sym, ap, ◌∙◌, ap₂, ⊎_elim, arith}
 use lib.Arith.{digits_div, digits_mod}
-use Rattle.std.proofs.lemmas.Bool.{lt-ltb, le-ltb, cases_lt, cond-true, cond-false, and_right, cases_Bool}
+use Rattle.std.proofs.lemmas.Bool.{lt-ltb, le-ltb, cases_lt, cond-true, cond-false, and_right}
 use Rattle.field.specs.Laws.{Ops, Laws}
-use Rattle.algebra.specs.Poly.{Same, sum, power, poly}
+use Rattle.algebra.specs.Poly.{Same, power}
 use Rattle.algebra.proofs.Sum.{sum_cong}
 use Rattle.algebra.proofs.Poly.{poly_cong}
 use Rattle.beehive.specs.declared.numbers.Numbers.{Numbers}
@@ -11,7 +11,7 @@ use Rattle.beehive.specs.Numbers.{alpha, beta, virtuals}
 use Rattle.beehive.specs.Numbers.{node}
 use Rattle.beehive.specs.Points.{point}
 use Rattle.coder.specs.Points.{lagrange, chosen_point}
-use Rattle.blocks.specs.Weights.{others, share_weight, row_weight, first_weight, second_weight, row_from, from_boxes}
+use Rattle.blocks.specs.Weights.{others, share_weight, first_weight, second_weight, row_from, from_boxes}
 use Rattle.blocks.specs.Weights.{pair_cell, grid_sum, points_used}
 use Rattle.coder.specs.Plans.{Planned}
 use Rattle.coder.proofs.Indices.{row_of, row_inside}

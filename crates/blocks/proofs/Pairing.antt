@@ -1,7 +1,7 @@
 -- The weights of pairs: as the code makes them, and over the same points.
-use Rattle.std.proofs.Common.{◌≡◌, ℕ, suc, ◌<◌, ◌≤◌, ap, ◌∙◌, ap₂, arith}
+use Rattle.std.proofs.Common.{◌≡◌, ℕ, suc, ◌<◌, ap, ◌∙◌, ap₂, arith}
 use Rattle.field.specs.Laws.{Ops, Laws}
-use Rattle.algebra.specs.Poly.{Same, sum, power, poly, factors, besides}
+use Rattle.algebra.specs.Poly.{Same, power, poly, besides}
 use Rattle.algebra.proofs.Ring.{ring}
 use Rattle.algebra.proofs.Sum.{sum_cong}
 use Rattle.algebra.proofs.Poly.{poly_cong}

@@ -1,13 +1,13 @@
 -- What the plans do, over every field that suits the stripe's numbers: applied to rows of lawful blocks each gives the lawful
 -- row. For one symbol position; at w positions they hold at each by itself.
-use Rattle.std.specs.Prelude.{◌≡◌, ℕ, suc, ◌+◌, ◌*◌, ◌/◌, ◌%◌, ◌<◌}
+use Rattle.std.specs.Prelude.{◌≡◌, ℕ, suc, ◌*◌, ◌/◌, ◌%◌, ◌<◌}
 use Rattle.field.specs.Laws.{Ops}
 use Rattle.algebra.specs.Poly.{sum}
 use Rattle.beehive.specs.declared.numbers.Numbers.{Numbers}
-use Rattle.beehive.specs.Numbers.{tail, beta, data_rows, Box, node}
+use Rattle.beehive.specs.Numbers.{beta, data_rows, Box, node}
 use Rattle.beehive.specs.Points.{Suits}
-use Rattle.beehive.specs.Rule.{Lawful, Holds, segment}
-use Rattle.beehive.specs.Theorems.{Boxes, Others}
+use Rattle.beehive.specs.Rule.{Lawful, Holds}
+use Rattle.beehive.specs.Theorems.{Boxes}
 use Rattle.blocks.specs.Weights.{from_boxes}
 
 module _ {E : Type 0} (F : Ops E) where

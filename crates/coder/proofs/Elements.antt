@@ -1,5 +1,5 @@
 -- Codes past 16 bits, powers one factor at a time, and the nodes before boxes 1, 2, 3.
-use Rattle.std.proofs.Common.{◌≡◌, ℕ, zero, suc, ◌+◌, ◌-◌, ◌%◌, ◌^◌, ◌<◌, ◌≤◌, ltb, sym, refl, ap, ◌∙◌, ap₂, ⊎_elim, add-one, arith}
+use Rattle.std.proofs.Common.{◌≡◌, ℕ, suc, ◌+◌, ◌-◌, ◌%◌, ◌^◌, ◌≤◌, ltb, sym, ap, ◌∙◌, ⊎_elim, add-one, arith}
 use lib.Pow.{mod-mod-pow}
 use Rattle.std.proofs.lemmas.Bool.{lt-ltb, le-ltb, cases_lt, cond-true, cond-false}
 use Rattle.field.specs.Laws.{Ops, Laws}

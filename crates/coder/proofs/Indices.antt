@@ -1,9 +1,7 @@
 -- Cell e of a grid of m columns: its row and its column.
-use Rattle.std.proofs.Common.{◌≡◌, ℕ, zero, suc, ◌+◌, ◌-◌, ◌*◌, ◌/◌, ◌%◌, ◌<◌, ◌≤◌, sym, ap, ◌∙◌, le_trans, mul-le-mul_right, mod-lt, suc-mul, div-lt_iff_lt-mul, mul-le-mul_left, arith}
-use Rattle.beehive.specs.declared.numbers.Numbers.{Numbers}
+use Rattle.std.proofs.Common.{ℕ, ◌+◌, ◌*◌, ◌/◌, ◌<◌, ◌≤◌, le_trans, mul-le-mul_right, suc-mul, div-lt_iff_lt-mul, mul-le-mul_left, arith}
 use Rattle.beehive.specs.Numbers.{beta}
 use Rattle.coder.specs.Theorems.{PlansFit}
-use lib.Arith.{digits_div, digits_mod}
 
 pub row_of : (e k m : ℕ) → 0 < m → e < k * m → e / m < k
 row_of e k m h l = (div-lt_iff_lt-mul {k = m} {x = e} {y = k} h).1 l

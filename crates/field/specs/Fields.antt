@@ -1,13 +1,13 @@
 -- From a modulus to a field: the polynomials modulo p have the laws where each but 0 has its inverse.
-use Rattle.std.specs.Prelude.{◌≡◌, ℕ, zero, suc, pred, ◌+◌, ◌-◌, ◌*◌, ◌/◌, ◌%◌, ◌^◌, ◌<◌, ◌≤◌, ◌≢◌, bit_xor, refl}
-use Rattle.std.proofs.Common.{sym, ◌∙◌, ap₂, subst, zero-lt-suc, mod-eq_of_lt, zero-add, suc-add, arith, pow_pos}
+use Rattle.std.specs.Prelude.{◌≡◌, ℕ, zero, suc, pred, ◌+◌, ◌-◌, ◌^◌, ◌<◌, ◌≢◌, bit_xor, refl}
+use Rattle.std.proofs.Common.{sym, ◌∙◌, ap₂, zero-lt-suc, mod-eq_of_lt, zero-add, suc-add, arith, pow_pos}
 use Rattle.std.proofs.Math.Path.{ap}
 use mathlib.Core.HLevel.{is_prop→PathP}
 use Rattle.std.proofs.Math.Bridge.{le_prop}
 use Rattle.std.specs.Int.Bits.{xor_zero_r, xor_assoc, xor_self}
 use Rattle.std.proofs.lemmas.Nat.{xor_comm, xor_lt}
 use Rattle.field.specs.declared.residue.Residue.{Residue}
-use Rattle.field.specs.Laws.{Ops, Laws, NoRoot}
+use Rattle.field.specs.Laws.{Laws, NoRoot}
 use Rattle.field.specs.Polynomials.{product, squares, inverse, power}
 use Rattle.field.specs.Residues.{code_of, from_code, Coded, modulo, Modulus, Rootless}
 use Rattle.field.specs.Modular as ring

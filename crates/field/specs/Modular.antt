@@ -1,7 +1,7 @@
 -- Multiplication modulo a polynomial p of degree m makes a commutative ring, whatever p is.
-use Rattle.std.specs.Prelude.{◌≡◌, ℕ, zero, suc, ◌+◌, ◌-◌, ◌*◌, ◌/◌, ◌%◌, ◌^◌, ◌<◌, ◌≤◌, bit_xor}
+use Rattle.std.specs.Prelude.{◌≡◌, ℕ, zero, suc, ◌+◌, ◌-◌, ◌*◌, ◌/◌, ◌%◌, ◌^◌, ◌<◌, bit_xor}
 use Rattle.std.proofs.Math.Path.{refl, sym, ap, ap₂, subst}
-use Rattle.std.proofs.Common.{◌∙◌, div-lt_iff_lt-mul, add-zero, zero-mul, one-mul, mul-one, mul-zero, mul_assoc, mul_comm, mod-lt, mod-eq_of_lt, not-suc-le-zero, le_of_suc-le-suc, zero-lt-suc, zero-add, suc-add, add-suc, one-add, add-one, pow_mono, shr-shr}
+use Rattle.std.proofs.Common.{◌∙◌, div-lt_iff_lt-mul, add-zero, zero-mul, one-mul, mul-one, mul_assoc, mod-lt, not-suc-le-zero, le_of_suc-le-suc, zero-lt-suc, zero-add, add-suc, one-add, add-one, pow_mono, shr-shr}
 use Rattle.std.proofs.Math.Nat.{div-eq_of_lt, pow-suc, lt_of_lt_of_le}
 use native.Mathlib.Omega.{arith}
 use Rattle.std.specs.Int.Bits.{xor_zero_l, xor_zero_r, xor_comm, xor_assoc, xor_self, xor_lt, xor_shifted}

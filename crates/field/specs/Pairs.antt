@@ -1,5 +1,5 @@
 -- The pairs low + high · z over a field, where z · z = z + nu.
-use Rattle.std.specs.Prelude.{ℕ, ◌+◌, ◌*◌, ◌/◌, ◌^◌}
+use Rattle.std.specs.Prelude.{◌+◌, ◌*◌, ◌/◌, ◌^◌}
 use Rattle.field.specs.declared.pair.Pair.{Pair}
 use Rattle.field.specs.Laws.{Ops}
 

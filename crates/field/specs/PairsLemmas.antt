@@ -1,6 +1,6 @@
 -- The pairs over a field have the laws, where nu is no y · y + y.
 use Rattle.std.specs.Prelude.{◌≡◌, ℕ, zero as zeroℕ, suc, ◌+◌, ◌*◌, ◌/◌, ◌%◌, ◌^◌, ◌<◌, ◌⊎◌, ◌≢◌, refl}
-use Rattle.std.proofs.Common.{sym, ◌∙◌, ap, ap₂, subst, inl, inr, mul-zero as mul_zeroℕ, mul_comm as mul_commℕ, add_comm as add_commℕ, add-zero as add_zeroℕ, arith, pow_pos, pow-add}
+use Rattle.std.proofs.Common.{sym, ◌∙◌, ap, ap₂, subst, inl, inr, mul-zero as mul_zeroℕ, mul_comm as mul_commℕ, add_comm as add_commℕ, add-zero as add_zeroℕ, arith, pow-add}
 use Rattle.std.proofs.Math.Arith.{digits_lt}
 use Rattle.std.proofs.Math.Pow.{high as high_digits, low as low_digits}
 use Rattle.std.proofs.lemmas.Nat.{mod-pow-add}

@@ -1,5 +1,5 @@
 -- The rules of the tables, each as one test over the whole table, which the checker computes.
-use Rattle.std.specs.Prelude.{ℕ, zero, suc, ◌*◌, Bool, true, false, ◌&&◌, List, [], ◌∷◌, ◌==◌, bit_xor, nat_lt}
+use Rattle.std.specs.Prelude.{ℕ, zero, suc, ◌*◌, Bool, true, ◌&&◌, List, [], ◌∷◌, ◌==◌, bit_xor, nat_lt}
 use Rattle.field.specs.Polynomials.{coefficient}
 
 -- X times x, modulo p, of degree m: p goes once where X ^ m has come up

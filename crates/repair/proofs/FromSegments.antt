@@ -1,14 +1,14 @@
 -- Segments by the weights of the plans: that of a helper from its rows, a pass from the helpers' segments, and the rows of a
 -- newcomer from the segments that came to it.
-use Rattle.std.proofs.Common.{◌≡◌, ℕ, ◌+◌, ◌-◌, ◌<◌, ◌≤◌, cond, ltb, sym, refl, ap, ◌∙◌, ap₂, ⊎_elim, arith}
+use Rattle.std.proofs.Common.{◌≡◌, ℕ, ◌+◌, ◌-◌, ◌<◌, ◌≤◌, ltb, sym, ap, ◌∙◌, ap₂, ⊎_elim, arith}
 use Rattle.std.proofs.lemmas.Bool.{lt-ltb, le-ltb, cases_lt, cond-true, cond-false}
 use Rattle.field.specs.Laws.{Ops, Laws}
-use Rattle.algebra.specs.Poly.{sum, power, poly, Lagrange, Apart}
+use Rattle.algebra.specs.Poly.{sum, poly, Lagrange, Apart}
 use Rattle.algebra.proofs.Ring.{ring, add_comm, add_zero, zero_mul}
 use Rattle.algebra.proofs.Sum.{sum_cong, sum_zero, sum_add, mul_sum, sum_mul, sum_split, sum_swap}
 use Rattle.algebra.proofs.Poly.{poly_cong, poly_mix}
 use Rattle.beehive.specs.declared.numbers.Numbers.{Numbers}
-use Rattle.beehive.specs.Numbers.{alpha, tail, beta, virtuals, Box, node}
+use Rattle.beehive.specs.Numbers.{alpha, tail, Box, node}
 use Rattle.beehive.specs.Points.{dot, point, powers, mu, Suits}
 use Rattle.beehive.specs.Rule.{first, second, Lawful, segment}
 use Rattle.beehive.specs.Theorems.{Others}

@@ -2,7 +2,7 @@
 use Rattle.std.proofs.Common.{◌≡◌, ℕ, ◌+◌, ◌-◌, ◌<◌, ◌≤◌, cond, ltb, List, sym, ap, ◌∙◌, ap₂, ⊎_elim, arith}
 use Rattle.std.proofs.lemmas.Bool.{lt-ltb, le-ltb, cases_lt, cond-true, cond-false}
 use Rattle.field.specs.Laws.{Ops}
-use Rattle.algebra.specs.Poly.{Same, sum, power, poly}
+use Rattle.algebra.specs.Poly.{Same, power, poly}
 use Rattle.algebra.proofs.Sum.{sum_cong}
 use Rattle.beehive.specs.declared.numbers.Numbers.{Numbers}
 use Rattle.beehive.specs.Numbers.{alpha, tail, node}

@@ -1,5 +1,5 @@
 -- The coefficients of a repair: of the segments that boxes send, and of the rows that are settled from them.
-use Rattle.std.specs.Prelude.{ℕ, ◌+◌, ◌-◌, ◌*◌, cond, nat_lt}
+use Rattle.std.specs.Prelude.{ℕ, ◌+◌, ◌-◌, cond, nat_lt}
 use Rattle.field.specs.Laws.{Ops}
 use Rattle.algebra.specs.Poly.{sum, power, poly}
 use Rattle.beehive.specs.declared.numbers.Numbers.{Numbers}

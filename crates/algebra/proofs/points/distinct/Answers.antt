@@ -1,4 +1,4 @@
-use Rattle.std.proofs.Common.{◌≡◌, ◌<◌, length, sym, refl, ◌∙◌, true≢false, arith}
+use Rattle.std.proofs.Common.{◌<◌, length, sym, refl, ◌∙◌, true≢false, arith}
 use Rattle.algebra.specs.Cells.{entry}
 use Rattle.algebra.proofs.Products.{read_entry, not_apart}
 use Rattle.algebra.proofs.points.distinct.Goals as goal

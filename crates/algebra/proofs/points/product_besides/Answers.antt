@@ -1,4 +1,4 @@
-use Rattle.std.proofs.Common.{◌≡◌, ◌+◌, ◌<◌, true, false, length, sym, ap, ◌∙◌, subst, arith}
+use Rattle.std.proofs.Common.{◌≡◌, ◌+◌, ◌<◌, false, length, sym, ap, ◌∙◌, subst, arith}
 use Rattle.algebra.specs.Poly.{Same, besides, factors}
 use Rattle.algebra.specs.Cells.{entry}
 use Rattle.algebra.proofs.Factors.{factors_none}

@@ -1,4 +1,4 @@
-use Rattle.std.proofs.Common.{◌≡◌, ◌<◌, length, sym, ap, ◌∙◌, arith}
+use Rattle.std.proofs.Common.{◌≡◌, ◌<◌, length, ap, ◌∙◌, arith}
 use Rattle.algebra.specs.Poly.{scaled}
 use Rattle.algebra.specs.Cells.{entry}
 use Rattle.algebra.proofs.Writes.{read, written_none, written_more}

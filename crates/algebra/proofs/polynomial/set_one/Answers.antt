@@ -1,4 +1,4 @@
-use Rattle.std.proofs.Common.{◌≡◌, ◌<◌, length, sym, ap, ◌∙◌, arith}
+use Rattle.std.proofs.Common.{◌≡◌, sym, ap, ◌∙◌, arith}
 use Rattle.algebra.specs.Poly.{unit}
 use Rattle.algebra.proofs.Sum.{unit_same, unit_other}
 use Rattle.algebra.proofs.Writes.{written_none, written_more}

@@ -1,4 +1,4 @@
-use Rattle.std.proofs.Common.{◌≡◌, ◌<◌, length, sym, ap, ◌∙◌, ap₂, add-one, arith}
+use Rattle.std.proofs.Common.{◌≡◌, ◌<◌, length, ap, ◌∙◌, ap₂, add-one, arith}
 use Rattle.algebra.specs.Poly.{before, times}
 use Rattle.algebra.specs.Cells.{entry}
 use Rattle.algebra.proofs.Writes.{read, written_none, written_more}

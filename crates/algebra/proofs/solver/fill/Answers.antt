@@ -1,7 +1,7 @@
 use Rattle.std.proofs.Common.{◌≡◌, ◌+◌, ◌-◌, ◌*◌, length, drop, subst, arith, length-drop, length-take, rules}
 use borrow.Rule.Slice.PartMut.{put_mid}
 use Rattle.algebra.specs.Cells.{entry}
-use Rattle.algebra.proofs.Solving.{Filled, row_ends, filled_none, filled_more, filled_all}
+use Rattle.algebra.proofs.Solving.{Filled, row_ends, filled_more, filled_all}
 use Rattle.algebra.proofs.solver.fill.Goals as goal
 
 pub overflow_mul-start : goal.overflow_mul-start

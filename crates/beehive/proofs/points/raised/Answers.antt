@@ -1,4 +1,4 @@
-use Rattle.std.proofs.Common.{◌≡◌, ℕ, sym, ap, ◌∙◌, add-one}
+use Rattle.std.proofs.Common.{sym, ap, ◌∙◌, add-one}
 use Rattle.algebra.specs.Poly.{power}
 use Rattle.algebra.proofs.Poly.{power_none, power_more}
 use Rattle.beehive.proofs.points.raised.Goals as goal

@@ -1,5 +1,5 @@
-use Rattle.std.proofs.Common.{◌≡◌, ℕ, ◌+◌, ◌*◌, sym, ap, ◌∙◌, ap₂, add-one}
-use Rattle.algebra.specs.Cells.{entry, matrix}
+use Rattle.std.proofs.Common.{sym, ap, ◌∙◌, ap₂, add-one}
+use Rattle.algebra.specs.Cells.{matrix}
 use Rattle.algebra.specs.Poly.{power}
 use Rattle.algebra.proofs.Poly.{power_none, power_more}
 use Rattle.beehive.specs.Points.{powers, point}

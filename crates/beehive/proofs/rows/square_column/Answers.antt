@@ -1,4 +1,4 @@
-use Rattle.std.proofs.Common.{◌≡◌, ℕ, ap, ◌∙◌}
+use Rattle.std.proofs.Common.{ℕ, ap, ◌∙◌}
 use Rattle.algebra.specs.Cells.{matrix}
 use Rattle.beehive.specs.Numbers.{alpha}
 use Rattle.beehive.specs.Points.{dot, powers}

@@ -1,4 +1,4 @@
-use Rattle.std.proofs.Common.{◌≡◌, suc, ◌<◌, length, sym, ap, ◌∙◌, ap₂, arith}
+use Rattle.std.proofs.Common.{◌≡◌, suc, ◌<◌, length, ap, ◌∙◌, arith}
 use Rattle.algebra.specs.Poly.{poly, power, factors, besides}
 use Rattle.algebra.specs.Cells.{entry}
 use Rattle.algebra.proofs.Products.{read_entry}

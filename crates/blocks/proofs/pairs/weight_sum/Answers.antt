@@ -1,4 +1,4 @@
-use Rattle.std.proofs.Common.{◌≡◌, ℕ, ◌+◌, ◌*◌, ◌<◌, length, sym, ap, ◌∙◌, ap₂, arith}
+use Rattle.std.proofs.Common.{◌≡◌, ◌+◌, ◌*◌, ◌<◌, length, sym, ap, ◌∙◌, ap₂, arith}
 use Rattle.algebra.specs.Poly.{sum, power}
 use Rattle.algebra.specs.Cells.{entry}
 use Rattle.algebra.proofs.Sum.{sum_none}

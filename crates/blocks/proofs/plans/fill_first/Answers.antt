@@ -1,10 +1,9 @@
-use Rattle.std.proofs.Common.{◌≡◌, suc, ◌+◌, ◌-◌, ◌*◌, ◌/◌, ◌%◌, ◌<◌, ◌≤◌, length, sym, ap, ◌∙◌, ap₂, arith}
+use Rattle.std.proofs.Common.{◌≡◌, ◌*◌, ◌/◌, ◌%◌, ◌<◌, length, ◌∙◌, ap₂, arith}
 use Rattle.algebra.specs.Cells.{entry}
 use Rattle.algebra.proofs.Writes.{written_none, written_more}
 use Rattle.beehive.specs.Numbers.{alpha, beta}
-use Rattle.blocks.specs.Weights.{second_weight}
 use Rattle.blocks.specs.Weights.{grid_sum}
-use Rattle.coder.proofs.Indices.{row_of, row_inside, plan_bound}
+use Rattle.coder.proofs.Indices.{row_of, row_inside}
 use Rattle.blocks.proofs.plans.fill_first.Goals as goal
 
 pub first_cell-requires : goal.first_cell-requires

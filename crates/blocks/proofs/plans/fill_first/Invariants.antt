@@ -2,7 +2,6 @@ use Rattle.std.proofs.Common.{◌/◌, ◌%◌, length}
 use Rattle.algebra.specs.Cells.{entry}
 use Rattle.algebra.proofs.Writes.{Written}
 use Rattle.beehive.specs.Numbers.{alpha, beta}
-use Rattle.blocks.specs.Weights.{second_weight}
 use Rattle.blocks.specs.Weights.{grid_sum}
 use Rattle.blocks.proofs.plans.fill_first.Given as goal
 

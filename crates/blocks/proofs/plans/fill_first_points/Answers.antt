@@ -1,4 +1,4 @@
-use Rattle.std.proofs.Common.{◌≡◌, suc, sym, ap, ◌∙◌, arith}
+use Rattle.std.proofs.Common.{suc, sym, ap, ◌∙◌, arith}
 use Rattle.algebra.proofs.Writes.{written_none, written_more}
 use Rattle.coder.specs.Points.{chosen_point}
 use Rattle.coder.proofs.Elements.{chosen_first}

@@ -1,6 +1,6 @@
 use Rattle.std.proofs.Common.{suc}
 use Rattle.algebra.proofs.Writes.{Written}
-use Rattle.coder.specs.Points.{listed, chosen_point}
+use Rattle.coder.specs.Points.{chosen_point}
 use Rattle.blocks.proofs.plans.fill_first_points.Given as goal
 
 abbrev pub invariant-loop-i : goal.invariant-loop-i

@@ -1,6 +1,6 @@
-use Rattle.std.proofs.Common.{◌≡◌, suc, ◌+◌, ◌*◌, ◌/◌, ◌%◌, ◌<◌, ◌≤◌, length, sym, ap, ◌∙◌, ap₂, le_trans, mul-le-mul_right, mul-le-mul_left, arith}
+use Rattle.std.proofs.Common.{◌≡◌, suc, ◌*◌, ◌/◌, ◌%◌, ◌≤◌, length, ap, ◌∙◌, ap₂, arith}
 use Rattle.algebra.specs.Cells.{entry}
-use Rattle.beehive.specs.Numbers.{alpha, beta, virtuals}
+use Rattle.beehive.specs.Numbers.{alpha, beta}
 use Rattle.blocks.specs.Weights.{pair_cell, grid_sum}
 use Rattle.coder.proofs.Indices.{row_of, grid_bound}
 use Rattle.blocks.proofs.Grids.{grid_first}

@@ -1,7 +1,6 @@
-use Rattle.std.proofs.Common.{◌≡◌, suc, ◌*◌, sym, refl, ap, ◌∙◌, ap₂, arith, rules}
+use Rattle.std.proofs.Common.{◌≡◌, suc, ◌*◌, refl, ◌∙◌, ap₂, arith}
 use Rattle.algebra.specs.Cells.{entry}
 use Rattle.beehive.specs.Numbers.{beta}
-use Rattle.coder.specs.Points.{listed}
 use Rattle.blocks.proofs.Grids.{planned_boxes}
 use Rattle.blocks.proofs.plans.load_plan.Goals as goal
 

@@ -1,4 +1,4 @@
-use Rattle.std.proofs.Common.{◌≡◌, suc, ◌*◌, sym, refl, ap, ◌∙◌, ap₂, arith, rules}
+use Rattle.std.proofs.Common.{◌≡◌, ◌*◌, refl, ◌∙◌, ap₂, arith}
 use Rattle.algebra.specs.Cells.{entry}
 use Rattle.beehive.specs.Numbers.{beta}
 use Rattle.coder.specs.Points.{listed}

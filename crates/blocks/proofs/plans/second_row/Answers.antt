@@ -1,10 +1,8 @@
-use Rattle.std.proofs.Common.{◌≡◌, suc, ◌+◌, ◌-◌, ◌*◌, ◌/◌, ◌%◌, ◌<◌, ◌≤◌, length, sym, ap, ◌∙◌, ap₂, arith}
+use Rattle.std.proofs.Common.{◌≡◌, ◌*◌, ◌/◌, ◌%◌, ap, ◌∙◌, ap₂, arith}
 use Rattle.algebra.specs.Cells.{entry}
 use Rattle.algebra.proofs.Writes.{written_none, written_more}
-use Rattle.beehive.specs.Numbers.{alpha, beta}
+use Rattle.beehive.specs.Numbers.{beta}
 use Rattle.blocks.specs.Weights.{second_weight}
-use Rattle.blocks.specs.Weights.{grid_sum}
-use Rattle.coder.proofs.Indices.{row_of, row_inside, plan_bound}
 use Rattle.blocks.proofs.plans.second_row.Goals as goal
 
 pub second_cell-requires : goal.second_cell-requires

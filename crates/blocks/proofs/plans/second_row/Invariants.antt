@@ -1,9 +1,8 @@
-use Rattle.std.proofs.Common.{◌/◌, ◌%◌, length}
+use Rattle.std.proofs.Common.{◌/◌, ◌%◌}
 use Rattle.algebra.specs.Cells.{entry}
 use Rattle.algebra.proofs.Writes.{Written}
-use Rattle.beehive.specs.Numbers.{alpha, beta}
+use Rattle.beehive.specs.Numbers.{beta}
 use Rattle.blocks.specs.Weights.{second_weight}
-use Rattle.blocks.specs.Weights.{grid_sum}
 use Rattle.blocks.proofs.plans.second_row.Given as goal
 
 abbrev pub invariant-loop-e : goal.invariant-loop-e

@@ -1,5 +1,4 @@
-use Rattle.std.proofs.Common.{◌≡◌, ◌<◌, length, get_or, sym, ap, ◌∙◌, subst, ap₂, arith}
-use Rattle.algebra.proofs.Ring.{one_mul}
+use Rattle.std.proofs.Common.{◌≡◌, ◌<◌, length, ap, ◌∙◌, subst, ap₂, arith}
 use Rattle.algebra.proofs.Writes.{Written, written_none, written_more}
 use Rattle.coder.proofs.Cells.{target, written_all}
 use Rattle.coder.proofs.rows.add_times.Goals as goal

@@ -1,4 +1,3 @@
-use Rattle.std.proofs.Common.{suc}
 use Rattle.algebra.proofs.Writes.{Written}
 use Rattle.coder.specs.Points.{listed, chosen_point}
 use Rattle.coder.proofs.scalars.fill_points.Given as goal

@@ -1,4 +1,4 @@
-use Rattle.std.proofs.Common.{◌≡◌, ℕ, suc, ◌+◌, ◌*◌, ◌%◌, ◌^◌, ◌<◌, ◌≤◌, sym, ap, ◌∙◌, subst, ap₂, le_trans, mul-le-mul_right, suc-mul, mul_comm, arith, pow_mono, pow-add, shl_exact}
+use Rattle.std.proofs.Common.{◌≡◌, ℕ, suc, ◌+◌, ◌*◌, ◌%◌, ◌^◌, ◌<◌, ◌≤◌, sym, ◌∙◌, subst, ap₂, mul-le-mul_right, suc-mul, mul_comm, arith, pow_mono, pow-add, shl_exact}
 use Rattle.field.proofs.pair.raised.Goals as goal
 
 -- a number below 2 ^ m, m bits up, leaves room for m bits more

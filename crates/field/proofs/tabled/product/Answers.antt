@@ -1,4 +1,4 @@
-use Rattle.std.proofs.Common.{◌≡◌, ℕ, sym, ap, ◌∙◌, ⊎_elim}
+use Rattle.std.proofs.Common.{ℕ, sym, ap, ◌∙◌, ⊎_elim}
 use Rattle.field.specs.Polynomials.{product}
 use Rattle.field.specs.Fields.{zero_product, product_zero}
 use Rattle.field.proofs.tabled.product.Goals as goal

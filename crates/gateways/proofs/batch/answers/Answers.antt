@@ -1,4 +1,4 @@
-use Rattle.std.proofs.Common.{◌≡◌, ℕ, ◌-◌, ◌<◌, ◌≤◌, length, get_or, sym, ap, ◌∙◌, arith, below_more}
+use Rattle.std.proofs.Common.{ℕ, ◌-◌, ◌<◌, ◌≤◌, length, get_or, ◌∙◌, arith, below_more}
 use Rattle.algebra.specs.Cells.{entry}
 use Rattle.algebra.proofs.Writes.{read}
 use Rattle.gateways.proofs.Mapped.{mapped_more, mapped_all}

@@ -1,4 +1,4 @@
-use Rattle.std.proofs.Common.{◌≡◌, ◌<◌, length, ap, ◌∙◌, arith}
+use Rattle.std.proofs.Common.{◌<◌, length, ◌∙◌, arith}
 use Rattle.gateways.proofs.Mapped.{mapped_more, mapped_all}
 use Rattle.gateways.proofs.batch.elements.Goals as goal
 

@@ -1,4 +1,4 @@
-use Rattle.std.proofs.Common.{◌≡◌, ℕ, ◌+◌, ◌<◌, length, get_or, sym, ap, ◌∙◌, subst, arith}
+use Rattle.std.proofs.Common.{◌≡◌, ℕ, ◌+◌, length, get_or, sym, ap, ◌∙◌}
 use Rattle.algebra.specs.Cells.{entry}
 use Rattle.algebra.specs.Poly.{poly}
 use Rattle.gateways.proofs.Mapped.{placed_more}

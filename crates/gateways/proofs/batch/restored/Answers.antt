@@ -1,4 +1,4 @@
-use Rattle.std.proofs.Common.{◌≡◌, ℕ, zero, suc, List, [], ◌∷◌, ◌++◌, length, take, drop, sym, refl, ap, ◌∙◌, subst, arith}
+use Rattle.std.proofs.Common.{◌≡◌, ℕ, zero, suc, List, [], ◌∷◌, ◌++◌, length, take, drop, sym, refl, ap, subst, arith}
 use Rattle.algebra.specs.Cells.{entry}
 use Rattle.algebra.specs.Poly.{Through}
 use Rattle.gateways.proofs.batch.restored.Goals as goal

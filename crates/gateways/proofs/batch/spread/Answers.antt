@@ -1,6 +1,6 @@
-use Rattle.std.proofs.Common.{◌≡◌, ℕ, ◌+◌, ◌<◌, length, sym, ap, ◌∙◌, subst}
+use Rattle.std.proofs.Common.{ℕ, ◌<◌, length, sym, ap, ◌∙◌, subst}
 use Rattle.algebra.specs.Cells.{entry}
-use Rattle.algebra.specs.Poly.{Through, poly}
+use Rattle.algebra.specs.Poly.{Through}
 use Rattle.gateways.proofs.Back.{comes_back}
 use Rattle.gateways.proofs.batch.spread.Goals as goal
 

@@ -1,12 +1,12 @@
-use Rattle.std.proofs.Common.{◌≡◌, ◌+◌, ◌-◌, ◌*◌, ◌<◌, ◌≤◌, cond, ltb, length, sym, ap, ◌∙◌, ap₂, arith}
-use Rattle.algebra.specs.Poly.{power, poly}
+use Rattle.std.proofs.Common.{◌≡◌, ◌+◌, length, ap, ◌∙◌, ap₂, arith}
+use Rattle.algebra.specs.Poly.{poly}
 use Rattle.algebra.specs.Cells.{entry}
 use Rattle.algebra.proofs.Poly.{poly_cong}
 use Rattle.algebra.proofs.Writes.{written_none, written_more}
-use Rattle.beehive.specs.Numbers.{alpha, beta, virtuals, node}
+use Rattle.beehive.specs.Numbers.{alpha, virtuals, node}
 use Rattle.beehive.specs.Points.{point, mu}
 use Rattle.coder.specs.Points.{listed, chosen_point, lagrange}
-use Rattle.repair.specs.Repair.{help_weight, pass_weight, helper_poly}
+use Rattle.repair.specs.Repair.{pass_weight, helper_poly}
 use Rattle.coder.proofs.Formulas.{lagrange_same}
 use Rattle.repair.proofs.help.fill_pass.Goals as goal
 

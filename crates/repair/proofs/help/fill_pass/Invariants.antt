@@ -1,6 +1,6 @@
 use Rattle.algebra.proofs.Writes.{Written}
 use Rattle.coder.specs.Points.{listed}
-use Rattle.repair.specs.Repair.{help_weight, pass_weight}
+use Rattle.repair.specs.Repair.{pass_weight}
 use Rattle.repair.proofs.help.fill_pass.Given as goal
 
 abbrev pub invariant-loop-i : goal.invariant-loop-i

@@ -1,6 +1,5 @@
 use Rattle.algebra.proofs.Writes.{Written}
-use Rattle.coder.specs.Points.{listed}
-use Rattle.repair.specs.Repair.{help_weight, pass_weight}
+use Rattle.repair.specs.Repair.{help_weight}
 use Rattle.repair.proofs.help.help_plan.Given as goal
 
 abbrev pub invariant-loop-r : goal.invariant-loop-r

@@ -1,14 +1,8 @@
-use Rattle.std.proofs.Common.{◌≡◌, ℕ, ◌+◌, ◌-◌, ◌*◌, ◌<◌, ◌≤◌, cond, ltb, length, sym, ap, ◌∙◌, ap₂, arith}
-use Rattle.algebra.specs.Poly.{sum, power, poly}
-use Rattle.algebra.specs.Cells.{entry}
-use Rattle.algebra.proofs.Products.{read_entry}
-use Rattle.algebra.proofs.Poly.{poly_cong}
+use Rattle.std.proofs.Common.{arith}
 use Rattle.algebra.proofs.Writes.{written_none, written_more}
-use Rattle.beehive.specs.Numbers.{alpha, tail, beta, virtuals, node}
-use Rattle.beehive.specs.Points.{point, mu}
-use Rattle.coder.specs.Points.{listed, chosen_point, lagrange}
-use Rattle.repair.specs.Repair.{helper_share, helper_poly, pass_poly, settle_first, settle_second}
-use Rattle.coder.proofs.Formulas.{lagrange_same}
+use Rattle.beehive.specs.Numbers.{node}
+use Rattle.beehive.specs.Points.{point}
+use Rattle.coder.specs.Points.{listed}
 use Rattle.repair.proofs.settle.fill_others.Goals as goal
 
 pub loop-m-init : goal.loop-m-init

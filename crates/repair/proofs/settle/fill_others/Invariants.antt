@@ -1,8 +1,7 @@
 use Rattle.algebra.proofs.Writes.{Written}
-use Rattle.beehive.specs.Numbers.{node, tail}
+use Rattle.beehive.specs.Numbers.{node}
 use Rattle.beehive.specs.Points.{point}
 use Rattle.coder.specs.Points.{listed}
-use Rattle.repair.specs.Repair.{helper_share, settle_first, settle_second}
 use Rattle.repair.proofs.settle.fill_others.Given as goal
 
 abbrev pub invariant-loop-m : goal.invariant-loop-m

@@ -1,8 +1,6 @@
 use Rattle.algebra.proofs.Writes.{Written}
-use Rattle.beehive.specs.Numbers.{node, tail}
-use Rattle.beehive.specs.Points.{point}
 use Rattle.coder.specs.Points.{listed}
-use Rattle.repair.specs.Repair.{helper_share, settle_first, settle_second}
+use Rattle.repair.specs.Repair.{settle_first}
 use Rattle.repair.proofs.settle.fill_settle_first.Given as goal
 
 abbrev pub invariant-loop-c : goal.invariant-loop-c

@@ -1,9 +1,6 @@
 use Rattle.std.proofs.Common.{◌≡◌, length}
 use Rattle.algebra.specs.Poly.{sum, power, poly}
 use Rattle.algebra.specs.Cells.{entry}
-use Rattle.algebra.proofs.Writes.{Written}
-use Rattle.coder.specs.Points.{listed, lagrange}
-use Rattle.repair.specs.Repair.{helper_share, settle_first, settle_second}
 use Rattle.repair.proofs.settle.pass_sum.Given as goal
 
 abbrev pub invariant-loop-m : goal.invariant-loop-m

@@ -1,14 +1,11 @@
-use Rattle.std.proofs.Common.{◌≡◌, ℕ, ◌+◌, ◌-◌, ◌*◌, ◌<◌, ◌≤◌, cond, ltb, length, sym, ap, ◌∙◌, ap₂, arith}
+use Rattle.std.proofs.Common.{◌≡◌, length, ap, ◌∙◌, ap₂, arith}
 use Rattle.algebra.specs.Poly.{sum, power, poly}
 use Rattle.algebra.specs.Cells.{entry}
-use Rattle.algebra.proofs.Products.{read_entry}
 use Rattle.algebra.proofs.Poly.{poly_cong}
-use Rattle.algebra.proofs.Writes.{written_none, written_more}
-use Rattle.beehive.specs.Numbers.{alpha, tail, beta, virtuals, node}
-use Rattle.beehive.specs.Points.{point, mu}
-use Rattle.coder.specs.Points.{listed, chosen_point, lagrange}
-use Rattle.repair.specs.Repair.{helper_share, helper_poly, pass_poly, settle_first, settle_second, tail_over, second_over, settle_weight}
-use Rattle.coder.proofs.Formulas.{lagrange_same}
+use Rattle.beehive.specs.Numbers.{alpha, tail, node}
+use Rattle.beehive.specs.Points.{mu}
+use Rattle.coder.specs.Points.{listed}
+use Rattle.repair.specs.Repair.{helper_share}
 use Rattle.repair.proofs.settle.second_share.Goals as goal
 use Rattle.algebra.proofs.Sum.{sum_cong}
 
