@@ -23,7 +23,7 @@ pub enum Unsolved {
 // Makes row the polynomial that is 1 at point i and 0 at the others: the product of X + p over the other points, divided
 // by its value at point i.
 pub(crate) fn lagrange<F: Field>(points: &[F::Elem], i: usize, row: &mut [F::Elem])
-    requires i_in_bounds { (i < length points.now) × (length row.old ≡ length points.now) }
+    requires in_range { (i < length points.now) × (length row.old ≡ length points.now) }
     requires distinct { Distinct F.Field.ops points.now }
     ensures { OneAt F.Field.ops (length points.now) (entry F.Field.ops points.now) i (entry F.Field.ops row.new) }
 {
@@ -36,7 +36,7 @@ pub(crate) fn lagrange<F: Field>(points: &[F::Elem], i: usize, row: &mut [F::Ele
 
 // Fills the rows of a grid of cols columns, one for each point.
 fn fill<F: Field>(points: &[F::Elem], cols: usize, cells: &mut [F::Elem])
-    requires points_len_bound { (length points.now ≤ cols) × (length points.now * cols ≤ length cells.old) }
+    requires lengths { (length points.now ≤ cols) × (length points.now * cols ≤ length cells.old) }
     requires distinct { Distinct F.Field.ops points.now }
     ensures { Solved F.Field.ops points.now cols cells.old cells.new }
 {

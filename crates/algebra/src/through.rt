@@ -12,7 +12,7 @@ use field::Field;
 
 // Makes f the polynomial through the values. What row holds is lost.
 fn combine<F: Field>(points: &[F::Elem], values: &[F::Elem], f: &mut [F::Elem], row: &mut [F::Elem])
-    requires values_len { (length values.now ≡ length points.now) × ((length f.old ≡ length points.now) × (length row.old ≡ length points.now)) }
+    requires lengths { (length values.now ≡ length points.now) × ((length f.old ≡ length points.now) × (length row.old ≡ length points.now)) }
     requires distinct { Distinct F.Field.ops points.now }
     ensures { Through F.Field.ops (length points.now) (entry F.Field.ops points.now) (entry F.Field.ops values.now) (entry F.Field.ops f.new) }
 {
@@ -30,7 +30,7 @@ fn combined_value<F: Field>(
     x: F::Elem,
     row: &mut [F::Elem],
 ) -> F::Elem
-    requires values_len { (length values.now ≡ length points.now) × (length row.old ≡ length points.now) }
+    requires lengths { (length values.now ≡ length points.now) × (length row.old ≡ length points.now) }
     requires distinct { Distinct F.Field.ops points.now }
     ensures { ValueThrough F.Field.ops points.now values.now x result }
 {

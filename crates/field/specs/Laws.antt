@@ -14,7 +14,7 @@ pub record Ops (E : Type 0) : Type 0 where
   -- the element whose code is the number's low bits
   pub element : ℕ → E
 
--- The laws. Equal elements are those of equal codes (element-code), and zero and one differ, having the codes 0 and 1.
+-- The laws. Equal elements are those of equal codes (element_code), and zero and one differ, having the codes 0 and 1.
 pub record Laws {E : Type 0} (F : Ops E) : Type 0 where
   pub add_assoc : (x y z : E) → F.add (F.add x y) z ≡ F.add x (F.add y z)
   pub add_comm : (x y : E) → F.add x y ≡ F.add y x

@@ -1,4 +1,4 @@
--- Polynomials over the field of two elements: bit i of a number is the coefficient of X ^ i, so that a sum is bitXor
+-- Polynomials over the field of two elements: bit i of a number is the coefficient of X ^ i, so that a sum is bit_xor
 -- and a number below 2 ^ m is a polynomial of degree below m.
 use Rattle.std.specs.Prelude.{ℕ, zero, suc, pred, ◌+◌, ◌*◌, ◌/◌, ◌%◌, ◌^◌, ◌<◌, ◌≤◌, bit_xor}
 

@@ -89,7 +89,7 @@ fn fill_pass<F: Field>(
     plan: &mut [F::Elem],
     row: &mut [F::Elem],
 )
-    requires d_in_bounds { (numbers.now.d ≤ length plan.old) × ((length points.now ≡ alpha numbers.now + alpha numbers.now) × (length row.old ≡ alpha numbers.now + alpha numbers.now)) }
+    requires lengths { (numbers.now.d ≤ length plan.old) × ((length points.now ≡ alpha numbers.now + alpha numbers.now) × (length row.old ≡ alpha numbers.now + alpha numbers.now)) }
     requires same { Same (alpha numbers.now + alpha numbers.now) (entry F.Field.ops points.now) (chosen_point F.Field.ops numbers.now (listed helpers.now)) }
     ensures { Planned F.Field.ops numbers.now.d (pass_weight F.Field.ops numbers.now j e (listed helpers.now)) plan.old plan.new }
 {

@@ -33,10 +33,8 @@ fn fill_others<F: Field>(numbers: &Numbers, list: &[u16], points: &mut [F::Elem]
 fn helper_sum<F: Field>(numbers: &Numbers, helpers: &[u16], j: u16, i: usize) -> F::Elem
     ensures { result ≡ F.Field.ops.add (mu F.Field.ops numbers.now (node numbers.now (listed helpers.now i))) (mu F.Field.ops numbers.now (node numbers.now j)) }
 {
-    F::add(
-        box_mu::<F>(numbers, list_entry(helpers, i)),
-        box_mu::<F>(numbers, j),
-    )
+    let own = box_mu::<F>(numbers, j);
+    F::add(box_mu::<F>(numbers, list_entry(helpers, i)), own)
 }
 
 // Coefficient k of a times the lower half of line and μ times its upper half.
@@ -64,7 +62,7 @@ fn first_share<F: Field>(
     k: usize,
     line: &mut [F::Elem],
 ) -> F::Elem
-    requires i_lt_d { (i < numbers.now.d) × ((k < alpha numbers.now) × ((length points.now ≡ alpha numbers.now + alpha numbers.now) × (length line.old ≡ alpha numbers.now + alpha numbers.now))) }
+    requires in_range { (i < numbers.now.d) × ((k < alpha numbers.now) × ((length points.now ≡ alpha numbers.now + alpha numbers.now) × (length line.old ≡ alpha numbers.now + alpha numbers.now))) }
     requires same { Same (alpha numbers.now + alpha numbers.now) (entry F.Field.ops points.now) (chosen_point F.Field.ops numbers.now (listed helpers.now)) }
     ensures { result ≡ helper_share F.Field.ops numbers.now j (listed helpers.now) i k }
 {
@@ -88,7 +86,7 @@ fn settle_first_cell<F: Field>(
     c: usize,
     line: &mut [F::Elem],
 ) -> F::Elem
-    requires r_bound { (r < alpha numbers.now) × ((length points.now ≡ alpha numbers.now + alpha numbers.now) × (length line.old ≡ alpha numbers.now + alpha numbers.now)) }
+    requires in_range { (r < alpha numbers.now) × ((length points.now ≡ alpha numbers.now + alpha numbers.now) × (length line.old ≡ alpha numbers.now + alpha numbers.now)) }
     requires same { Same (alpha numbers.now + alpha numbers.now) (entry F.Field.ops points.now) (chosen_point F.Field.ops numbers.now (listed helpers.now)) }
     ensures { result ≡ settle_first F.Field.ops numbers.now j (listed helpers.now) r c }
 {
@@ -109,7 +107,7 @@ fn fill_settle_first<F: Field>(
     plan: &mut [F::Elem],
     line: &mut [F::Elem],
 )
-    requires r_bound { (r < alpha numbers.now) × ((numbers.now.d + tail numbers.now ≤ length plan.old) × ((length points.now ≡ alpha numbers.now + alpha numbers.now) × (length line.old ≡ alpha numbers.now + alpha numbers.now))) }
+    requires in_range { (r < alpha numbers.now) × ((numbers.now.d + tail numbers.now ≤ length plan.old) × ((length points.now ≡ alpha numbers.now + alpha numbers.now) × (length line.old ≡ alpha numbers.now + alpha numbers.now))) }
     requires same { Same (alpha numbers.now + alpha numbers.now) (entry F.Field.ops points.now) (chosen_point F.Field.ops numbers.now (listed helpers.now)) }
     ensures { Planned F.Field.ops (numbers.now.d + tail numbers.now) (settle_first F.Field.ops numbers.now j (listed helpers.now) r) plan.old plan.new }
 {
@@ -129,7 +127,7 @@ fn fill_share<F: Field>(
     share: &mut [F::Elem],
     line: &mut [F::Elem],
 )
-    requires i_lt_d { (i < numbers.now.d) × ((length share.old ≡ alpha numbers.now) × ((length points.now ≡ alpha numbers.now + alpha numbers.now) × (length line.old ≡ alpha numbers.now + alpha numbers.now))) }
+    requires in_range { (i < numbers.now.d) × ((length share.old ≡ alpha numbers.now) × ((length points.now ≡ alpha numbers.now + alpha numbers.now) × (length line.old ≡ alpha numbers.now + alpha numbers.now))) }
     requires same { Same (alpha numbers.now + alpha numbers.now) (entry F.Field.ops points.now) (chosen_point F.Field.ops numbers.now (listed helpers.now)) }
     ensures { Same (alpha numbers.now) (entry F.Field.ops share.new) (helper_share F.Field.ops numbers.now j (listed helpers.now) i) }
 {
@@ -207,7 +205,7 @@ fn second_share<F: Field>(
     share: &mut [F::Elem],
     line: &mut [F::Elem],
 ) -> F::Elem
-    requires i_lt_d { (i < numbers.now.d) × ((length passes.now ≡ tail numbers.now) × ((length share.old ≡ alpha numbers.now) × ((length points.now ≡ alpha numbers.now + alpha numbers.now) × (length line.old ≡ alpha numbers.now + alpha numbers.now)))) }
+    requires in_range { (i < numbers.now.d) × ((length passes.now ≡ tail numbers.now) × ((length share.old ≡ alpha numbers.now) × ((length points.now ≡ alpha numbers.now + alpha numbers.now) × (length line.old ≡ alpha numbers.now + alpha numbers.now)))) }
     requires same { Same (alpha numbers.now + alpha numbers.now) (entry F.Field.ops points.now) (chosen_point F.Field.ops numbers.now (listed helpers.now)) }
     ensures { result ≡ tail_over F.Field.ops numbers.now j (listed helpers.now) (entry F.Field.ops passes.now) (entry F.Field.ops weights.now) i }
 {
@@ -233,7 +231,7 @@ fn settle_second_cell<F: Field>(
     share: &mut [F::Elem],
     line: &mut [F::Elem],
 ) -> F::Elem
-    requires passes_len { (length passes.now ≡ tail numbers.now) × ((length share.old ≡ alpha numbers.now) × ((length points.now ≡ alpha numbers.now + alpha numbers.now) × (length line.old ≡ alpha numbers.now + alpha numbers.now))) }
+    requires lengths { (length passes.now ≡ tail numbers.now) × ((length share.old ≡ alpha numbers.now) × ((length points.now ≡ alpha numbers.now + alpha numbers.now) × (length line.old ≡ alpha numbers.now + alpha numbers.now))) }
     requires same { Same (alpha numbers.now + alpha numbers.now) (entry F.Field.ops points.now) (chosen_point F.Field.ops numbers.now (listed helpers.now)) }
     ensures { result ≡ second_over F.Field.ops numbers.now j (listed helpers.now) (entry F.Field.ops passes.now) (entry F.Field.ops weights.now) c }
 {
@@ -256,7 +254,7 @@ fn fill_settle_second<F: Field>(
     share: &mut [F::Elem],
     line: &mut [F::Elem],
 )
-    requires numbers_in_bounds { (numbers.now.d + tail numbers.now ≤ length plan.old) × ((length passes.now ≡ tail numbers.now) × ((length share.old ≡ alpha numbers.now) × ((length points.now ≡ alpha numbers.now + alpha numbers.now) × (length line.old ≡ alpha numbers.now + alpha numbers.now)))) }
+    requires lengths { (numbers.now.d + tail numbers.now ≤ length plan.old) × ((length passes.now ≡ tail numbers.now) × ((length share.old ≡ alpha numbers.now) × ((length points.now ≡ alpha numbers.now + alpha numbers.now) × (length line.old ≡ alpha numbers.now + alpha numbers.now)))) }
     requires same { Same (alpha numbers.now + alpha numbers.now) (entry F.Field.ops points.now) (chosen_point F.Field.ops numbers.now (listed helpers.now)) }
     ensures { Planned F.Field.ops (numbers.now.d + tail numbers.now) (second_over F.Field.ops numbers.now j (listed helpers.now) (entry F.Field.ops passes.now) (entry F.Field.ops weights.now)) plan.old plan.new }
 {
@@ -280,7 +278,7 @@ fn settle_second<F: Field>(
     line: &mut [F::Elem],
     room: &mut [F::Elem],
 )
-    requires numbers_in_bounds { (numbers.now.d + tail numbers.now ≤ length plan.old) × ((32 ≤ length room.old) × ((length points.now ≡ alpha numbers.now + alpha numbers.now) × (length line.old ≡ alpha numbers.now + alpha numbers.now))) }
+    requires lengths { (numbers.now.d + tail numbers.now ≤ length plan.old) × ((32 ≤ length room.old) × ((length points.now ≡ alpha numbers.now + alpha numbers.now) × (length line.old ≡ alpha numbers.now + alpha numbers.now))) }
     requires same { Same (alpha numbers.now + alpha numbers.now) (entry F.Field.ops points.now) (chosen_point F.Field.ops numbers.now (listed helpers.now)) }
     ensures { Planned F.Field.ops (numbers.now.d + tail numbers.now) (settle_second F.Field.ops numbers.now j (listed helpers.now) (listed others.now) q) plan.old plan.new }
 {

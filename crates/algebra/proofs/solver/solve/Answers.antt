@@ -7,4 +7,4 @@ fill-requires g c =
     let l : m ≤ c.args.grid.now.rows = omega arith in
     let h = mul-le-mul_right c.args.grid.now.cols l in
     let f = c.if-not-fits.ensures.0 refl in
-    (record { points_len_bound = (omega arith, omega arith); distinct = c.if-not-distinct.ensures.0 refl })
+    (record { lengths = (omega arith, omega arith); distinct = c.if-not-distinct.ensures.0 refl })

@@ -16,8 +16,8 @@ returns g c =
     let i = c.args.i in
     let k = c.args.k in
     let f = c.lagrange_row.new.row in
-    let m : length ps ≡ alpha n + alpha n = c.requires.i_lt_d.1.1.0 in
-    let ml : length c.args.line.now ≡ alpha n + alpha n = c.requires.i_lt_d.1.1.1 in
+    let m : length ps ≡ alpha n + alpha n = c.requires.in_range.1.1.0 in
+    let ml : length c.args.line.now ≡ alpha n + alpha n = c.requires.in_range.1.1.1 in
     let at : (q : ℕ) → q < alpha n + alpha n → entry F f q ≡ helper_poly F n hs i q =
     λ q l. c.lagrange_row.ensures q (omega arith) ∙ ap₂ (λ a m. cut_lagrange F a m (entry F ps) (c.virtuals.result + i) q) ml m ∙ ap (λ v. lagrange F (alpha n + alpha n) (entry F ps) (v + i) q) c.virtuals.ensures ∙
     lagrange_same F (alpha n + alpha n) (entry F ps) (chosen_point F n hs) c.requires.same (virtuals n + i) q (omega arith) in

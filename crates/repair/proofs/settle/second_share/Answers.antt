@@ -19,7 +19,7 @@ returns g c =
     let hs = listed c.args.helpers.now in
     let j = c.args.j in
     let i = c.args.i in
-    let mt : length ps ≡ tail n = c.requires.i_lt_d.1.0 in
+    let mt : length ps ≡ tail n = c.requires.in_range.1.0 in
     let ms : length f ≡ alpha n = omega arith in
     c.pass_sum.ensures ∙
     ap₂ (λ m a. sum F m (λ q. F.mul (F.mul (F.inv (F.add c.box_mu.result (power F (entry F ps q) c.alpha.result))) (poly F a (entry F f) (entry F ps q))) (entry F ws q))) mt ms ∙
