@@ -9,3 +9,4 @@ pub mod Products
 pub mod Solving
 pub mod Combining
 pub mod Grids
+pub mod Horner

@@ -1,5 +1,6 @@
 -- A loop that multiplies by one factor at a time, and a list of points that is gone through for repeated ones.
-use Rattle.std.proofs.Common.{◌≡◌, ℕ, zero, suc, ◌+◌, ◌<◌, Bool, true, false, List, length, get_or, sym, refl, ap, ◌∙◌, ap₂, add-one, arith}
+use Rattle.std.proofs.Common.{◌≡◌, ◌≢◌, ℕ, zero, suc, ◌+◌, ◌<◌, Bool, true, false, List, length, get_or, sym, refl, ap, ◌∙◌, ap₂, ⊎_elim, add-one, arith}
+use Rattle.std.proofs.lemmas.Bool.{cases_lt}
 use Rattle.field.specs.Laws.{Ops}
 use Rattle.algebra.specs.Poly.{Apart, Same, before, times, factors}
 use Rattle.algebra.specs.Cells.{entry}
@@ -26,6 +27,13 @@ module _ {E : Type 0} (F : Ops E) where
 
   pub left_turn : (n : ℕ) (keep : ℕ → Bool) (p : ℕ → E) (c : ℕ) (f : ℕ → E) → keep c ≡ false → Same n f (factors F keep p c) → Same n f (factors F keep p (c + 1))
   left_turn n keep p c f t a k l = a k l ∙ ap (λ h. h k) (sym (factors_left F keep p c t)) ∙ ap (λ m. factors F keep p m k) (sym (add-one c))
+
+-- points of which each is none of those before it
+pub apart_all : {E : Type 0} (m : ℕ) (p : ℕ → E) → ((n : ℕ) → n < m → (k : ℕ) → k < n → p k ≢ p n) → Apart m p
+apart_all m p new i j a b e = ⊎_elim
+    (λ l. absurd (new j b i l e))
+    (λ l. ⊎_elim (λ h. absurd (new i a j h (sym e))) (λ h. omega arith) (cases_lt j i))
+    (cases_lt i j)
 
 -- a point that stands twice
 pub not_apart : {E : Type 0} (m : ℕ) (p : ℕ → E) (k n : ℕ) → k < n → n < m → p k ≡ p n → Apart m p → ⊥

@@ -1,5 +1,5 @@
 -- The steps of the solver.
-use Rattle.std.proofs.Common.{◌≡◌, ℕ, ◌+◌, ◌-◌, ◌*◌, ◌<◌, ◌≤◌, List, ◌++◌, length, get_or, take, drop, sym, refl, ap, ◌∙◌, ap₂, ⊎_elim, mul-le-mul_right, suc-mul, arith, length-take-le, below_more}
+use Rattle.std.proofs.Common.{◌≡◌, ℕ, ◌+◌, ◌-◌, ◌*◌, ◌<◌, ◌≤◌, List, ◌++◌, length, get_or, take, drop, sym, ap, ◌∙◌, ap₂, ⊎_elim, mul-le-mul_right, suc-mul, arith, length-take-le, below_more}
 use borrow.Rule.Slice.PartMut.{put_mid, post_of}
 use Rattle.std.proofs.lemmas.List.{get_or_append_left, get_or-append_right, get_or-take, get_or-drop}
 use Rattle.std.proofs.lemmas.Bool.{cases_lt}
@@ -54,13 +54,16 @@ module _ {E : Type 0} (a k : ℕ) (xs ys : List E) (z : E) (fit : a + k ≤ leng
       get_or-drop a xs (k + (q - a - k)) z ∙
       ap (λ q. get_or xs q z) (omega arith)
 
--- The same for the first k elements.
-module _ {E : Type 0} (k : ℕ) (xs ys : List E) (z : E) (fit : k ≤ length xs) (long : length ys ≡ k) where
-  pub front_inside : (j : ℕ) → j < k → get_or (put_mid 0 k xs ys) j z ≡ get_or ys j z
-  front_inside j l = get_or_append_left ys (post_of 0 k xs) z j (omega arith)
+-- What it holds after its first k elements were replaced by ys.
+module _ {E : Type 0} (k : ℕ) (xs ys : List E) (z : E) (long : length ys ≡ k) where
+  pub front_inside : (j : ℕ) → j < k → get_or (ys ++ drop k xs) j z ≡ get_or ys j z
+  front_inside j l = get_or_append_left ys (drop k xs) z j (omega arith)
 
-  pub front_above : (q : ℕ) → k ≤ q → get_or (put_mid 0 k xs ys) q z ≡ get_or xs q z
-  front_above q l = put_above 0 k xs ys z (omega arith) long q (omega arith)
+  pub front_above : (q : ℕ) → k ≤ q → get_or (ys ++ drop k xs) q z ≡ get_or xs q z
+  front_above q l =
+      get_or-append_right ys (drop k xs) k q z long l ∙
+      get_or-drop k xs (q - k) z ∙
+      ap (λ q. get_or xs q z) (omega arith)
 
 -- The rows below n are done, and no other cell has changed.
 pub record Filled {E : Type 0} (F : Ops E) (m : ℕ) (p : ℕ → E) (cols : ℕ) (old new : List E) (n : ℕ) : Type 0 where
@@ -79,9 +82,6 @@ module _ {E : Type 0} (F : Ops E) (m : ℕ) (p : ℕ → E) where
   one_at_same i f g s h = (poly_cong F m f g (p i) s ∙ h.0, λ j l ne. poly_cong F m f g (p j) s ∙ h.1 j l ne)
 
   module _ (cols : ℕ) (old : List E) where
-    pub filled_none : Filled F m p cols old old 0
-    filled_none = record { done = λ i l. absurd (omega arith); rest = λ q h. refl }
-
     pub filled_more : (new ys : List E) (i : ℕ) → m ≤ cols → i * cols + m ≤ length new → length ys ≡ m → OneAt F m p i (entry F ys) →
         Filled F m p cols old new i → Filled F m p cols old (put_mid (i * cols) m new ys) (i + 1)
     filled_more new ys i w fit long h s = record {

@@ -1,6 +1,6 @@
 // A grid of rows and columns over elements that the caller lends: row after row, cell (i, j) at i · cols + j.
 // It is thin: what loops over cells is a function over slices, to which the grid's slice is handed on.
-ghost use Rattle.std.specs.Prelude.{◌≡◌, ℕ, ◌+◌, ◌*◌, ◌^◌, ◌<◌, ◌≤◌, Bool, true, false, length, if◌then◌else◌, MatchOption, nat_le, slice_index_or, slice_set};
+ghost use Rattle.std.specs.Prelude.{◌<◌, ◌≡◌, ◌+◌, ◌*◌, ◌^◌, ◌≤◌, true, false, length, if◌then◌else◌, MatchOption, nat_le, slice_index_or, slice_set};
 ghost use Rattle.std.specs.List.{between};
 ghost use Rattle.algebra.specs.Cells.{Inside, Whole};
 
@@ -15,10 +15,7 @@ pub struct Grid<'a, E> {
 pub fn fits(rows: usize, cols: usize, room: usize) -> bool
     ensures { (result ≡ true → rows * cols ≤ room) × (rows * cols ≤ room → result ≡ true) }
 {
-    match rows.checked_mul(cols) {
-        Some(n) => n <= room,
-        None => false,
-    }
+    rows.checked_mul(cols).is_some_and(|n| n <= room)
 }
 
 impl<'a, E: Copy> Grid<'a, E> {
@@ -45,15 +42,11 @@ impl<'a, E: Copy> Grid<'a, E> {
             × (v ≡ slice_index_or self.now.cells.now (row * self.now.cols + col) v)) }
     {
         let at = place(self.rows, self.cols, row, col)?;
-        let cells = &self.cells[..];
-        if at < cells.len() {
-            Some(cells[at])
-        } else {
-            None
-        }
+        self.cells.get(at).copied()
     }
 
-    // Writes the element at (row, col), and says whether there is such a cell; where there is none, nothing changes.
+    // Writes the element at (row, col), and says whether there is such a cell; where there is none, nothing changes. The answer is
+    // a plain yes or no, as that of a set's `insert`.
     pub fn put(&mut self, row: usize, col: usize, value: E) -> bool
         ensures cases { (result ≡ true → Inside self.old row col)
             × (Inside self.old row col → result ≡ true) }
@@ -83,11 +76,7 @@ impl<'a, E: Copy> Grid<'a, E> {
         }
         let start = row.checked_mul(self.cols)?;
         let end = start.checked_add(self.cols)?;
-        if end <= self.cells.len() {
-            Some(&self.cells[start..end])
-        } else {
-            None
-        }
+        self.cells.get(start..end)
     }
 }
 

@@ -1,5 +1,5 @@
 // Lists of points: whether they are pairwise different, and the polynomials that are zero at all of them but one or two.
-ghost use Rattle.std.specs.Prelude.{◌≡◌, ℕ, ◌<◌, ◌≤◌, true, false, length, ◌≢◌};
+ghost use Rattle.std.specs.Prelude.{◌<◌, ◌≡◌, ℕ, true, false, length, ◌≢◌};
 ghost use Rattle.algebra.specs.Poly.{Same, besides, factors};
 ghost use Rattle.algebra.specs.Cells.{entry};
 ghost use Rattle.algebra.specs.Solutions.{Distinct};
@@ -7,18 +7,12 @@ ghost use Rattle.algebra.specs.Solutions.{Distinct};
 use crate::polynomial::{set_one, times_root};
 use field::Field;
 
-// Whether no point below number n is x.
-fn is_new<F: Field>(points: &[F::Elem], n: usize, x: F::Elem) -> bool
-    requires { n ≤ length points.now }
-    ensures { (result ≡ true → (k : ℕ) → k < n → entry F.Field.ops points.now k ≢ x)
-        × (result ≡ false → (k : ℕ) × (k < n) × (entry F.Field.ops points.now k ≡ x)) }
+// Whether none of the points is x.
+fn is_new<F: Field>(points: &[F::Elem], x: F::Elem) -> bool
+    ensures yes { result ≡ true → (k : ℕ) → k < length points.now → entry F.Field.ops points.now k ≢ x }
+    ensures no { result ≡ false → (k : ℕ) × (k < length points.now) × (entry F.Field.ops points.now k ≡ x) }
 {
-    for k in 0..n {
-        if F::equal(points[k], x) {
-            return false;
-        }
-    }
-    true
+    !points.iter().any(|p| F::equal(*p, x))
 }
 
 // Whether the points are pairwise different.
@@ -26,12 +20,17 @@ pub fn distinct<F: Field>(points: &[F::Elem]) -> bool
     ensures { (result ≡ true → Distinct F.Field.ops points.now)
         × (Distinct F.Field.ops points.now → result ≡ true) }
 {
-    for n in 0..points.len() {
-        if !is_new::<F>(points, n, points[n]) {
-            return false;
-        }
-    }
-    true
+    points
+        .iter()
+        .enumerate()
+        .all(|(n, p)| is_new::<F>(&points[..n], *p))
+}
+
+// Whether c is neither of the numbers i and j.
+fn is_besides(i: usize, j: usize, c: usize) -> bool
+    ensures { result ≡ besides i j c }
+{
+    c != i && c != j
 }
 
 // Makes f the product of X + p over all points p but those of the numbers i and j, which may be equal. Of a product that
@@ -41,9 +40,9 @@ pub fn product_besides<F: Field>(points: &[F::Elem], i: usize, j: usize, f: &mut
         (factors F.Field.ops (besides i j) (entry F.Field.ops points.now) (length points.now)) }
 {
     set_one::<F>(f);
-    for c in 0..points.len() {
-        if c != i && c != j {
-            let _ = times_root::<F>(f, points[c]);
+    for (c, p) in points.iter().enumerate() {
+        if is_besides(i, j, c) {
+            let _ = times_root::<F>(f, *p);
         }
     }
 }

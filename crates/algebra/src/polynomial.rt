@@ -1,5 +1,5 @@
 // Polynomials over slices of coefficients, the lowest first. Each function goes for slices of any lengths.
-ghost use Rattle.std.specs.Prelude.{◌≡◌, ℕ, ◌<◌, ◌≤◌, length};
+ghost use Rattle.std.specs.Prelude.{◌≡◌, length};
 ghost use Rattle.algebra.specs.Poly.{poly, unit, before, times, scaled, plus, Same};
 ghost use Rattle.algebra.specs.Cells.{entry};
 
@@ -9,19 +9,17 @@ use field::Field;
 pub fn value<F: Field>(f: &[F::Elem], x: F::Elem) -> F::Elem
     ensures { result ≡ poly F.Field.ops (length f.now) (entry F.Field.ops f.now) x }
 {
-    let mut sum = F::zero();
-    for i in (0..f.len()).rev() {
-        sum = F::add(f[i], F::mul(x, sum));
-    }
-    sum
+    f.iter()
+        .rev()
+        .fold(F::zero(), |sum, a| F::add(*a, F::mul(x, sum)))
 }
 
 // Makes f the polynomial 0.
 pub fn set_zero<F: Field>(f: &mut [F::Elem])
     ensures { Same (length f.old) (entry F.Field.ops f.new) (λ k. F.Field.ops.zero) }
 {
-    for i in 0..f.len() {
-        f[i] = F::zero();
+    for cell in f.iter_mut() {
+        *cell = F::zero();
     }
 }
 
@@ -29,8 +27,9 @@ pub fn set_zero<F: Field>(f: &mut [F::Elem])
 pub fn set_one<F: Field>(f: &mut [F::Elem])
     ensures { Same (length f.old) (entry F.Field.ops f.new) (unit F.Field.ops 0) }
 {
-    for i in 0..f.len() {
-        f[i] = if i == 0 { F::one() } else { F::zero() };
+    set_zero::<F>(f);
+    if !f.is_empty() {
+        f[0] = F::one();
     }
 }
 
@@ -40,9 +39,9 @@ pub fn times_root<F: Field>(f: &mut [F::Elem], p: F::Elem) -> F::Elem
     ensures value { result ≡ before F.Field.ops (entry F.Field.ops f.old) (length f.old) }
 {
     let mut carry = F::zero();
-    for i in 0..f.len() {
-        let old = f[i];
-        f[i] = F::add(carry, F::mul(p, old));
+    for a in f.iter_mut() {
+        let old = *a;
+        *a = F::add(carry, F::mul(p, old));
         carry = old;
     }
     carry
@@ -52,8 +51,8 @@ pub fn times_root<F: Field>(f: &mut [F::Elem], p: F::Elem) -> F::Elem
 pub fn scale<F: Field>(f: &mut [F::Elem], c: F::Elem)
     ensures { Same (length f.old) (entry F.Field.ops f.new) (scaled F.Field.ops c (entry F.Field.ops f.old)) }
 {
-    for i in 0..f.len() {
-        f[i] = F::mul(c, f[i]);
+    for coefficient in f.iter_mut() {
+        *coefficient = F::mul(c, *coefficient);
     }
 }
 
@@ -62,8 +61,9 @@ pub fn add_scaled<F: Field>(f: &mut [F::Elem], c: F::Elem, g: &[F::Elem])
     ensures { Same (length f.old) (entry F.Field.ops f.new)
         (plus F.Field.ops (entry F.Field.ops f.old) c (entry F.Field.ops g.now)) }
 {
-    let n = if g.len() < f.len() { g.len() } else { f.len() };
-    for i in 0..n {
-        f[i] = F::add(f[i], F::mul(c, g[i]));
+    let n = f.len().min(g.len());
+    // The place in f by its number: after `f.iter_mut().zip(g)` nothing is known of f.
+    for (i, b) in g[..n].iter().enumerate() {
+        f[i] = F::add(f[i], F::mul(c, *b));
     }
 }

@@ -1,6 +1,6 @@
 // The one solver: the Lagrange polynomials of given points, which are the rows of the inverse of their Vandermonde matrix.
-ghost use Rattle.std.specs.Prelude.{◌≡◌, ℕ, ◌+◌, ◌*◌, ◌<◌, ◌≤◌, length, MatchResult};
-ghost use Rattle.algebra.specs.Poly.{OneAt};
+ghost use Rattle.std.specs.Prelude.{◌<◌, ◌≡◌, ◌*◌, ◌≤◌, length, MatchResult};
+ghost use Rattle.algebra.specs.Poly.{OneAt, Apart};
 ghost use Rattle.algebra.specs.Cells.{entry};
 ghost use Rattle.algebra.specs.Solutions.{Distinct, Roomy, Denied, Solved};
 
@@ -20,29 +20,56 @@ pub enum Unsolved {
     Repeated,
 }
 
-// Makes row the polynomial that is 1 at point i and 0 at the others: the product of X + p over the other points, divided
-// by its value at point i.
-pub(crate) fn lagrange<F: Field>(points: &[F::Elem], i: usize, row: &mut [F::Elem])
-    requires in_range { (i < length points.now) × (length row.old ≡ length points.now) }
-    requires distinct { Distinct F.Field.ops points.now }
-    ensures { OneAt F.Field.ops (length points.now) (entry F.Field.ops points.now) i (entry F.Field.ops row.new) }
-{
-    product_besides::<F>(points, i, i, row);
-    let height = value::<F>(row, points[i]);
-    if let Some(inverse) = F::inverse(height) {
-        scale::<F>(row, inverse);
-    }
+// Points of which no two are equal.
+#[derive(Drop)]
+pub(crate) struct Points<'a, F: Field> {
+    pub(crate) all: &'a [F::Elem],
+    ghost distinct: { Apart (length all.now) (entry F.Field.ops all.now) },
 }
 
-// Fills the rows of a grid of cols columns, one for each point.
-fn fill<F: Field>(points: &[F::Elem], cols: usize, cells: &mut [F::Elem])
-    requires lengths { (length points.now ≤ cols) × (length points.now * cols ≤ length cells.old) }
-    requires distinct { Distinct F.Field.ops points.now }
-    ensures { Solved F.Field.ops points.now cols cells.old cells.new }
-{
-    for i in 0..points.len() {
-        let start = i * cols;
-        lagrange::<F>(points, i, &mut cells[start..start + points.len()]);
+impl<'a, F: Field> Points<'a, F> {
+    // These points, if no two are equal; else `Repeated`.
+    pub(crate) fn of(all: &'a [F::Elem]) -> Result<Points<'a, F>, Unsolved>
+        ensures { MatchResult result
+            (λ p. p.all.now ≡ all.now)
+            (λ e. (e ≡ Unsolved.Repeated) × (Distinct F.Field.ops all.now → ⊥)) }
+    {
+        if distinct::<F>(all) {
+            Ok(Points { all })
+        } else {
+            Err(Unsolved::Repeated)
+        }
+    }
+
+    // Makes row the polynomial that is 1 at point i and 0 at the others: the product of X + p over the other points,
+    // divided by its value at point i. `coder::lagrange_row` has these lines for any points and any row, and gives a formula: here
+    // no formula is needed, since the points are distinct. The length of lent memory stands in each contract that passes it on: a
+    // type for a slice of this length would say it again wherever one is cut.
+    pub(crate) fn lagrange(&self, i: usize, row: &mut [F::Elem])
+        requires number { i < length self.now.all.now }
+        requires room { length row.old ≡ length self.now.all.now }
+        ensures { OneAt F.Field.ops (length self.now.all.now) (entry F.Field.ops self.now.all.now) i (entry F.Field.ops row.new) }
+    {
+        let points = self.all;
+        product_besides::<F>(points, i, i, row);
+        let height = value::<F>(row, points[i]);
+        if let Some(inverse) = F::inverse(height) {
+            scale::<F>(row, inverse);
+        }
+    }
+
+    // Fills the rows of a grid of cols columns, one for each point.
+    fn fill(&self, cols: usize, cells: &mut [F::Elem])
+        requires wide { length self.now.all.now ≤ cols }
+        requires room { length self.now.all.now * cols ≤ length cells.old }
+        ensures { Solved F.Field.ops self.now.all.now cols cells.old cells.new }
+    {
+        let m = self.all.len();
+        // By number: `chunks_mut` asks for a column even where there are no points, and then nothing is known of the cells.
+        for i in 0..m {
+            let start = i * cols;
+            self.lagrange(i, &mut cells[start..start + m]);
+        }
     }
 }
 
@@ -62,10 +89,7 @@ pub fn solve<F: Field>(points: &[F::Elem], grid: &mut Grid<F::Elem>) -> Result<(
     if m > grid.rows || m > grid.cols || !fits(grid.rows, grid.cols, grid.cells.len()) {
         return Err(Unsolved::Room);
     }
-    if !distinct::<F>(points) {
-        return Err(Unsolved::Repeated);
-    }
-    let cols = grid.cols;
-    fill::<F>(points, cols, grid.cells);
+    let points = Points::<F>::of(points)?;
+    points.fill(grid.cols, grid.cells);
     Ok(())
 }

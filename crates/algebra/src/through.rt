@@ -1,50 +1,53 @@
 // The polynomial of m coefficients through given values at m points: its coefficients, and its value at a further point.
 // It is the sum of the values times the Lagrange polynomials, which are made one after the other in lent memory.
-ghost use Rattle.std.specs.Prelude.{◌≡◌, ℕ, ◌<◌, ◌≤◌, min, length, MatchResult};
+ghost use Rattle.std.specs.Prelude.{◌≡◌, min, length, MatchResult};
 ghost use Rattle.algebra.specs.Poly.{Through};
 ghost use Rattle.algebra.specs.Cells.{entry};
-ghost use Rattle.algebra.specs.Solutions.{Distinct, Fit, Unfit, SameFrom, Interpolated, ValueThrough};
+ghost use Rattle.algebra.specs.Solutions.{Fit, Unfit, SameFrom, Interpolated, ValueThrough};
 
-use crate::points::distinct;
 use crate::polynomial::{add_scaled, set_zero, value};
-use crate::solver::{Unsolved, lagrange};
+use crate::solver::{Points, Unsolved};
 use field::Field;
 
-// Makes f the polynomial through the values. What row holds is lost.
-fn combine<F: Field>(points: &[F::Elem], values: &[F::Elem], f: &mut [F::Elem], row: &mut [F::Elem])
-    requires lengths { (length values.now ≡ length points.now) × ((length f.old ≡ length points.now) × (length row.old ≡ length points.now)) }
-    requires distinct { Distinct F.Field.ops points.now }
-    ensures { Through F.Field.ops (length points.now) (entry F.Field.ops points.now) (entry F.Field.ops values.now) (entry F.Field.ops f.new) }
-{
-    set_zero::<F>(f);
-    for i in 0..points.len() {
-        lagrange::<F>(points, i, row);
-        add_scaled::<F>(f, values[i], row);
+impl<F: Field> Points<'_, F> {
+    // Makes f the polynomial through the values. What row holds is lost.
+    fn combine(&self, values: &[F::Elem], f: &mut [F::Elem], row: &mut [F::Elem])
+        requires values { length values.now ≡ length self.now.all.now }
+        requires coefficients { length f.old ≡ length self.now.all.now }
+        requires room { length row.old ≡ length self.now.all.now }
+        ensures { Through F.Field.ops (length self.now.all.now) (entry F.Field.ops self.now.all.now) (entry F.Field.ops values.now) (entry F.Field.ops f.new) }
+    {
+        set_zero::<F>(f);
+        for (i, y) in values.iter().enumerate() {
+            self.lagrange(i, row);
+            add_scaled::<F>(f, *y, row);
+        }
+    }
+
+    // The value at x of the polynomial through the values. What row holds is lost.
+    fn combined_value(&self, values: &[F::Elem], x: F::Elem, row: &mut [F::Elem]) -> F::Elem
+        requires values { length values.now ≡ length self.now.all.now }
+        requires room { length row.old ≡ length self.now.all.now }
+        ensures { ValueThrough F.Field.ops self.now.all.now values.now x result }
+    {
+        let mut sum = F::zero();
+        for (i, y) in values.iter().enumerate() {
+            self.lagrange(i, row);
+            sum = F::add(sum, F::mul(*y, value::<F>(row, x)));
+        }
+        sum
     }
 }
 
-// The value at x of the polynomial through the values. What row holds is lost.
-fn combined_value<F: Field>(
+// The points, if there is one value for each, room for as many elements, and no point twice.
+fn judge<F: Field>(
     points: &[F::Elem],
-    values: &[F::Elem],
-    x: F::Elem,
-    row: &mut [F::Elem],
-) -> F::Elem
-    requires lengths { (length values.now ≡ length points.now) × (length row.old ≡ length points.now) }
-    requires distinct { Distinct F.Field.ops points.now }
-    ensures { ValueThrough F.Field.ops points.now values.now x result }
-{
-    let mut sum = F::zero();
-    for i in 0..points.len() {
-        lagrange::<F>(points, i, row);
-        sum = F::add(sum, F::mul(values[i], value::<F>(row, x)));
-    }
-    sum
-}
-
-// Whether there is one value for each point, room for as many elements, and no point twice.
-fn judge<F: Field>(points: &[F::Elem], values: usize, room: usize) -> Result<(), Unsolved>
-    ensures { MatchResult result (λ _. Fit F.Field.ops points.now values room) (λ e. Unfit F.Field.ops points.now values room e) }
+    values: usize,
+    room: usize,
+) -> Result<Points<'_, F>, Unsolved>
+    ensures { MatchResult result
+        (λ p. (p.all.now ≡ points.now) × Fit F.Field.ops points.now values room)
+        (λ e. Unfit F.Field.ops points.now values room e) }
 {
     if values != points.len() {
         return Err(Unsolved::Values);
@@ -52,10 +55,7 @@ fn judge<F: Field>(points: &[F::Elem], values: usize, room: usize) -> Result<(),
     if room < points.len() {
         return Err(Unsolved::Room);
     }
-    if !distinct::<F>(points) {
-        return Err(Unsolved::Repeated);
-    }
-    Ok(())
+    Points::of(points)
 }
 
 // Makes the first m coefficients of f those of the polynomial through the values at the m points. The first m elements of
@@ -77,8 +77,8 @@ pub fn interpolate<F: Field>(
         (λ _. scratch.new ≡ scratch.old) }
 {
     let m = points.len();
-    judge::<F>(points, values.len(), f.len().min(scratch.len()))?;
-    combine::<F>(points, values, &mut f[0..m], &mut scratch[0..m]);
+    let points = judge::<F>(points, values.len(), f.len().min(scratch.len()))?;
+    points.combine(values, &mut f[..m], &mut scratch[..m]);
     Ok(())
 }
 
@@ -99,6 +99,6 @@ pub fn value_through<F: Field>(
     ensures scratch { SameFrom F.Field.ops (length points.now) scratch.old scratch.new }
 {
     let m = points.len();
-    judge::<F>(points, values.len(), scratch.len())?;
-    Ok(combined_value::<F>(points, values, x, &mut scratch[0..m]))
+    let points = judge::<F>(points, values.len(), scratch.len())?;
+    Ok(points.combined_value(values, x, &mut scratch[..m]))
 }

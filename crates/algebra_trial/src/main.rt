@@ -6,7 +6,7 @@
 mod tests;
 
 use algebra::{Grid, solve};
-use anyhow::anyhow;
+use anyhow::Context;
 use field::{Field, Nibbles, Tables};
 
 fn main(rt: HostRuntime) -> anyhow::Result<()> {
@@ -21,14 +21,14 @@ fn run(rt: &HostRuntime) -> anyhow::Result<()> {
     ];
     let mut cells = [Nibbles::zero(); 9];
     let mut grid = Grid::over(3, 3, &mut cells);
-    if solve::<Nibbles>(&points, &mut grid).is_err() {
-        return Err(anyhow!("the solver refused three points"));
-    }
+    solve::<Nibbles>(&points, &mut grid)
+        .ok()
+        .context("the solver refused three points")?;
+    // By number: so a grid gives its rows.
     for i in 0..3 {
-        for j in 0..3 {
-            if let Some(c) = grid.get(i, j) {
-                print!(rt; "{} ", Nibbles::code(c))?;
-            }
+        let row = grid.row(i).context("the grid has no such row")?;
+        for c in row {
+            print!(rt; "{} ", Nibbles::code(*c))?;
         }
         println!(rt; "is 1 at point {} and 0 at the others", i + 1)?;
     }

@@ -5,21 +5,18 @@ use field::*;
 // Points number 0, 1, 2, .. are the elements of the codes start, start + 1, ..
 fn number<F: Field>(points: &mut [F::Elem], start: u16) {
     let mut code = start;
-    for i in 0..points.len() {
-        points[i] = F::element(code);
+    for p in points.iter_mut() {
+        *p = F::element(code);
         code = code.wrapping_add(1);
     }
 }
 
 // Whether the polynomial is 1 at point i and 0 at the others.
 fn row_stands<F: Field>(row: &[F::Elem], points: &[F::Elem], i: usize) -> bool {
-    for j in 0..points.len() {
+    points.iter().enumerate().all(|(j, p)| {
         let expected = if i == j { F::one() } else { F::zero() };
-        if !F::equal(value::<F>(row, points[j]), expected) {
-            return false;
-        }
-    }
-    true
+        F::equal(value::<F>(row, *p), expected)
+    })
 }
 
 // Solves, and compares every value.
@@ -27,6 +24,7 @@ fn solver_stands<F: Field>(points: &[F::Elem], cells: &mut [F::Elem]) -> Result<
     let m = points.len();
     let mut grid = Grid::over(m, m, cells);
     solve::<F>(points, &mut grid)?;
+    // By number: so a grid gives its rows.
     for i in 0..m {
         let Some(row) = grid.row(i) else {
             return Ok(false);
@@ -56,12 +54,10 @@ fn trial<F: Field>(
 
 // Whether the polynomial has the values at the points.
 fn has_values<F: Field>(f: &[F::Elem], points: &[F::Elem], values: &[F::Elem]) -> bool {
-    for (p, y) in points.iter().zip(values) {
-        if !F::equal(value::<F>(f, *p), *y) {
-            return false;
-        }
-    }
-    true
+    points
+        .iter()
+        .zip(values)
+        .all(|(p, y)| F::equal(value::<F>(f, *p), *y))
 }
 
 // The polynomial through values has them, and value_through agrees with it at a further point.

@@ -1,4 +1,5 @@
 pub mod Nodes
+pub mod Elements
 pub mod Values
 pub mod Passes
 pub mod Skip

@@ -1,5 +1,5 @@
 // Making the numbers of a stripe, and what follows from them.
-ghost use Rattle.std.specs.Prelude.{◌≡◌, ℕ, ◌+◌, ◌-◌, ◌*◌, ◌≤◌, Ok, Err};
+ghost use Rattle.std.specs.Prelude.{◌≡◌, Ok, Err};
 ghost use Rattle.beehive.specs.Making.{Judged};
 ghost use Rattle.beehive.specs.Numbers.{boxes, alpha, tail, beta, virtuals, data_rows};
 

@@ -1,5 +1,4 @@
 // The stripe's numbers, as a type that can hold no others than those within the limits.
-ghost use Rattle.std.specs.Prelude.{◌+◌, ◌-◌, ◌*◌, ◌≤◌};
 ghost use Rattle.beehive.specs.Limits.{InLimits, WellHelped};
 
 // Any k boxes give the data back; r boxes more are kept, n = k + r in all; t lost boxes (the newcomers) are refilled

@@ -1,5 +1,5 @@
 -- The grid of pairs, summed up, gives the weights of rows; the weights of a row over the same points are the same.
-use Rattle.std.proofs.Common.{◌≡◌, ℕ, suc, ◌+◌, ◌-◌, ◌*◌, ◌/◌, ◌%◌, ◌<◌, ◌≤◌, cond, ◌&&◌, eqb, ltb, List, sym, ap, ◌∙◌, ap₂, ⊎_elim, arith}
+use Rattle.std.proofs.Common.{◌≡◌, ℕ, suc, ◌+◌, ◌-◌, ◌*◌, ◌/◌, ◌%◌, ◌<◌, ◌≤◌, cond, ◌&&◌, eqb, ltb, sym, ap, ◌∙◌, ap₂, ⊎_elim, arith}
 use lib.Arith.{digits_div, digits_mod}
 use Rattle.std.proofs.lemmas.Bool.{lt-ltb, le-ltb, cases_lt, cond-true, cond-false, and_right}
 use Rattle.field.specs.Laws.{Ops, Laws}
@@ -13,7 +13,6 @@ use Rattle.beehive.specs.Points.{point}
 use Rattle.coder.specs.Points.{lagrange, chosen_point}
 use Rattle.blocks.specs.Weights.{others, share_weight, first_weight, second_weight, row_from, from_boxes}
 use Rattle.blocks.specs.Weights.{pair_cell, grid_sum, points_used}
-use Rattle.coder.specs.Plans.{Planned}
 use Rattle.coder.proofs.Indices.{row_of, row_inside}
 use Rattle.blocks.proofs.Pairing.{weight_order, row_weight_same}
 use Rattle.coder.proofs.Formulas.{lagrange_same}
@@ -52,7 +51,7 @@ module _ {E : Type 0} (F : Ops E) (N : Numbers) (p p' : ℕ → E) (x : E) where
   pub row_from_second : (r i l : ℕ) → alpha N ≤ r → Same (alpha N) p p' → second_weight F N p x r i l ≡ row_from F N p' x r i l
   row_from_second r i l h s = second_same s r i l ∙ sym (cond-false (ltb r (alpha N)) (first_weight F N p' x r i l) (second_weight F N p' x r i l) (le-ltb r (alpha N) h))
 
-  row_same : (r i l : ℕ) → Same (points_used N r) p p' → i < N.k → row_from F N p x r i l ≡ row_from F N p' x r i l
+  pub row_same : (r i l : ℕ) → Same (points_used N r) p p' → i < N.k → row_from F N p x r i l ≡ row_from F N p' x r i l
   row_same r i l s b = ⊎_elim
       (λ h. let e = cond-true (ltb r (alpha N)) (alpha N + 1) (alpha N) (lt-ltb r (alpha N) h) in
       cond-true (ltb r (alpha N)) (first_weight F N p x r i l) (second_weight F N p x r i l) (lt-ltb r (alpha N) h) ∙ row_from_first r i l h (λ k d. s k (omega arith)) b)
@@ -61,10 +60,8 @@ module _ {E : Type 0} (F : Ops E) (N : Numbers) (p p' : ℕ → E) (x : E) where
       (cases_lt r (alpha N))
 
 -- the plan of a row over points that are those of the nodes of a list
-pub planned_boxes : {E : Type 0} (F : Ops E) (N : Numbers) (list : ℕ → ℕ) (to r : ℕ) (p : ℕ → E) (x : E) (old new : List E) → Same (points_used N r) p (chosen_point F N list) → x ≡ point F N (node N to) →
-    Planned F (N.k * beta N) (λ e. row_from F N p x r (e / beta N) (e % beta N)) old new → Planned F (N.k * beta N) (from_boxes F N list to r) old new
-planned_boxes F N list to r p x old new s ex plan = record {
-  made = λ e l. plan.made e l ∙ row_same F N p (chosen_point F N list) x r (e / beta N) (e % beta N) s (row_of e N.k (beta N) (omega arith) l) ∙
-      ap (λ x. row_from F N (chosen_point F N list) x r (e / beta N) (e % beta N)) ex;
-  rest = plan.rest;
-}
+pub boxes_same : {E : Type 0} (F : Ops E) (N : Numbers) (list : ℕ → ℕ) (to r : ℕ) (p : ℕ → E) (x : E) (f : ℕ → E) → Same (points_used N r) p (chosen_point F N list) → x ≡ point F N (node N to) →
+    Same (N.k * beta N) f (λ e. row_from F N p x r (e / beta N) (e % beta N)) → Same (N.k * beta N) f (from_boxes F N list to r)
+boxes_same F N list to r p x f s ex plan e l =
+    plan e l ∙ row_same F N p (chosen_point F N list) x r (e / beta N) (e % beta N) s (row_of e N.k (beta N) (omega arith) l) ∙
+    ap (λ x. row_from F N (chosen_point F N list) x r (e / beta N) (e % beta N)) ex

@@ -1,6 +1,6 @@
 // The weights of pairs of nodes.
-ghost use Rattle.std.specs.Prelude.{◌≡◌, ℕ, suc, ◌+◌, ◌-◌, ◌*◌, ◌<◌, ◌≤◌, length};
-ghost use Rattle.algebra.specs.Poly.{sum, power, poly, Same};
+ghost use Rattle.std.specs.Prelude.{◌<◌, ◌≡◌, suc, ◌+◌, ◌*◌, ◌≤◌, length};
+ghost use Rattle.algebra.specs.Poly.{sum, power, poly};
 ghost use Rattle.algebra.specs.Cells.{entry};
 ghost use Rattle.blocks.specs.Weights.{others, share_weight};
 
@@ -37,7 +37,10 @@ pub(crate) fn pair_weight<F: Field>(
     q: usize,
     row: &mut [F::Elem],
 ) -> F::Elem
-    requires { (i < length points.now) × ((j < length points.now) × ((length points.now ≡ suc (length row.old)) × (q < length row.old))) }
+    requires first { i < length points.now }
+    requires second { j < length points.now }
+    requires row { length points.now ≡ suc (length row.old) }
+    requires coefficient { q < length row.old }
     ensures { result ≡ F.Field.ops.mul (share_weight F.Field.ops (length row.old) (entry F.Field.ops points.now) i j x)
         (others F.Field.ops (length row.old) (entry F.Field.ops points.now) i j q) }
 {
@@ -61,8 +64,8 @@ pub(crate) fn weight_sum<F: Field>(
 {
     let start = i * points.len();
     let mut total = F::zero();
-    for j in 0..points.len() {
-        total = F::add(total, F::mul(pairs[start + j], raised::<F>(points[j], l)));
+    for (p, w) in points.iter().zip(&pairs[start..start + points.len()]) {
+        total = F::add(total, F::mul(*w, raised::<F>(*p, l)));
     }
     total
 }

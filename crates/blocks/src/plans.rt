@@ -1,154 +1,114 @@
 // Plans over the rows of k boxes: a row of any box from them. Cell i · β + l of a plan is for row l of box number i.
-ghost use Rattle.std.specs.Prelude.{◌≡◌, ℕ, suc, ◌+◌, ◌-◌, ◌*◌, ◌/◌, ◌%◌, ◌<◌, ◌≤◌, Bool, true, false, cond, length};
-ghost use Rattle.algebra.specs.Poly.{sum, power, poly, Same};
+ghost use Rattle.std.specs.Prelude.{◌<◌, ◌≡◌, suc, ◌+◌, ◌-◌, ◌*◌, ◌/◌, ◌%◌, ◌≤◌, length};
+ghost use Rattle.algebra.specs.Poly.{Same};
 ghost use Rattle.algebra.specs.Cells.{entry};
-ghost use Rattle.beehive.specs.Numbers.{alpha, beta, virtuals, node};
-ghost use Rattle.beehive.specs.Points.{point};
-ghost use Rattle.coder.specs.Points.{listed, chosen_point, lagrange};
-ghost use Rattle.blocks.specs.Weights.{others, share_weight, row_weight, first_weight, second_weight, row_from, from_boxes};
-ghost use Rattle.coder.specs.Plans.{Planned, FitsPlan, Made};
+ghost use Rattle.beehive.specs.Numbers.{alpha, beta, virtuals};
+ghost use Rattle.coder.specs.Points.{listed, chosen_point};
+ghost use Rattle.blocks.specs.Weights.{first_weight, second_weight, row_from, from_boxes};
+ghost use Rattle.coder.specs.Plans.{FitsPlan, Made};
 ghost use Rattle.blocks.specs.Weights.{pair_cell, grid_sum, points_used};
 
 use crate::pairs::{pair_weight, weight_sum};
 use beehive::Numbers;
 use coder::{box_point, fill_points, fits_plan, lagrange_value};
 use field::Field;
+use refusal::Denial;
 
-// Fills the grid of the weights of pairs for row q of the node at x: a row for each box, a column for each point.
-fn fill_pairs<F: Field>(
-    virtuals: usize,
-    points: &[F::Elem],
+// The node at x, whose rows are made from the rows of k boxes. `points` has the points of the virtual nodes and then those of
+// the boxes.
+#[derive(Drop)]
+struct Target<'a, F: Field> {
+    numbers: &'a Numbers,
+    points: &'a [F::Elem],
     x: F::Elem,
-    q: usize,
-    row: &mut [F::Elem],
-    pairs: &mut [F::Elem],
-)
-    requires { (length points.now ≡ suc (length row.old)) × ((q < length row.old) × ((virtuals ≤ length points.now) × (length pairs.old ≡ (length points.now - virtuals) * length points.now))) }
-    ensures { Same (length pairs.old) (entry F.Field.ops pairs.new) (pair_cell F.Field.ops (length row.old) (entry F.Field.ops points.now) virtuals x q) }
-{
-    let m = points.len();
-    for e in 0..pairs.len() {
-        pairs[e] = pair_weight::<F>(points, virtuals + e / m, e % m, x, q, row);
+}
+
+impl<F: Field> Target<'_, F> {
+    // Fills the grid of the weights of pairs for row q: a row for each box, a column for each point.
+    fn fill_pairs(&self, q: usize, row: &mut [F::Elem], pairs: &mut [F::Elem])
+        requires row { length self.now.points.now ≡ suc (length row.old) }
+        requires coefficient { q < length row.old }
+        requires virtuals { virtuals self.now.numbers.now ≤ length self.now.points.now }
+        requires grid { length pairs.old ≡ (length self.now.points.now - virtuals self.now.numbers.now) * length self.now.points.now }
+        ensures { Same (length pairs.old) (entry F.Field.ops pairs.new) (pair_cell F.Field.ops (length row.old) (entry F.Field.ops self.now.points.now) (virtuals self.now.numbers.now) self.now.x q) }
+    {
+        let first = self.numbers.virtuals();
+        let m = self.points.len();
+        for (e, pair) in pairs.iter_mut().enumerate() {
+            *pair = pair_weight::<F>(self.points, first + e / m, e % m, self.x, q, row);
+        }
     }
-}
 
-// The coefficient for row l of box number i, from the grid of pairs.
-fn first_cell<F: Field>(
-    alpha: usize,
-    points: &[F::Elem],
-    pairs: &[F::Elem],
-    i: usize,
-    l: usize,
-) -> F::Elem
-    requires { i * length points.now + length points.now ≤ length pairs.now }
-    ensures { result ≡ grid_sum F.Field.ops (length points.now) (entry F.Field.ops points.now) (entry F.Field.ops pairs.now) alpha i l }
-{
-    if l < alpha {
-        weight_sum::<F>(points, pairs, i, l)
-    } else {
-        F::zero()
+    // The coefficient for row l of box number i in a row of the first part, from the grid of pairs.
+    fn first_cell(&self, pairs: &[F::Elem], i: usize, l: usize) -> F::Elem
+        requires { i * length self.now.points.now + length self.now.points.now ≤ length pairs.now }
+        ensures { result ≡ grid_sum F.Field.ops (length self.now.points.now) (entry F.Field.ops self.now.points.now) (entry F.Field.ops pairs.now) (alpha self.now.numbers.now) i l }
+    {
+        if l < self.numbers.alpha() {
+            weight_sum::<F>(self.points, pairs, i, l)
+        } else {
+            F::zero()
+        }
     }
-}
 
-// Fills the plan for a row of the first part from the grid of pairs.
-fn fill_first<F: Field>(
-    numbers: &Numbers,
-    points: &[F::Elem],
-    pairs: &[F::Elem],
-    plan: &mut [F::Elem],
-)
-    requires { (numbers.now.k * length points.now ≤ length pairs.now) × (numbers.now.k * beta numbers.now ≤ length plan.old) }
-    ensures { Planned F.Field.ops (numbers.now.k * beta numbers.now)
-        (λ e. grid_sum F.Field.ops (length points.now) (entry F.Field.ops points.now) (entry F.Field.ops pairs.now) (alpha numbers.now) (e / beta numbers.now) (e % beta numbers.now))
-        plan.old plan.new }
-{
-    let beta = numbers.beta();
-    let count = numbers.needed() * beta;
-    for e in 0..count {
-        plan[e] = first_cell::<F>(numbers.alpha(), points, pairs, e / beta, e % beta);
+    // The plan for row q of the first part.
+    fn first_row(&self, q: usize, plan: &mut [F::Elem], room: &mut [F::Elem])
+        requires points { length self.now.points.now ≡ suc (alpha self.now.numbers.now) }
+        requires row { q < alpha self.now.numbers.now }
+        requires plan { length plan.old ≡ self.now.numbers.now.k * beta self.now.numbers.now }
+        requires room { 96 ≤ length room.old }
+        ensures { Same (length plan.old) (entry F.Field.ops plan.new)
+            (λ e. first_weight F.Field.ops self.now.numbers.now (entry F.Field.ops self.now.points.now) self.now.x q (e / beta self.now.numbers.now) (e % beta self.now.numbers.now)) }
+    {
+        let beta = self.numbers.beta();
+        let (row, rest) = room.split_at_mut(self.numbers.alpha());
+        let (pairs, _) = rest.split_at_mut(self.numbers.needed() * self.points.len());
+        self.fill_pairs(q, row, pairs);
+        for (e, c) in plan.iter_mut().enumerate() {
+            *c = self.first_cell(pairs, e / beta, e % beta);
+        }
     }
-}
 
-// The plan for row q of the first part of the node at x.
-fn first_row<F: Field>(
-    numbers: &Numbers,
-    points: &[F::Elem],
-    x: F::Elem,
-    q: usize,
-    plan: &mut [F::Elem],
-    room: &mut [F::Elem],
-)
-    requires { (length points.now ≡ suc (alpha numbers.now)) × ((q < alpha numbers.now) × ((numbers.now.k * beta numbers.now ≤ length plan.old) × (96 ≤ length room.old))) }
-    ensures { Planned F.Field.ops (numbers.now.k * beta numbers.now)
-        (λ e. first_weight F.Field.ops numbers.now (entry F.Field.ops points.now) x q (e / beta numbers.now) (e % beta numbers.now))
-        plan.old plan.new }
-{
-    let (row, rest) = room.split_at_mut(numbers.alpha());
-    let (pairs, _) = rest.split_at_mut(numbers.needed() * points.len());
-    fill_pairs::<F>(numbers.virtuals(), points, x, q, row, pairs);
-    fill_first::<F>(numbers, points, pairs, plan);
-}
-
-// The coefficient for row l of box number i in the plan for row r of the second part of the node at x.
-fn second_cell<F: Field>(
-    numbers: &Numbers,
-    points: &[F::Elem],
-    x: F::Elem,
-    r: usize,
-    i: usize,
-    l: usize,
-    row: &mut [F::Elem],
-) -> F::Elem
-    requires { (length points.now ≡ alpha numbers.now) × (length row.old ≡ alpha numbers.now) }
-    ensures { result ≡ second_weight F.Field.ops numbers.now (entry F.Field.ops points.now) x r i l }
-{
-    if l == r && i < numbers.needed() - 1 {
-        lagrange_value::<F>(points, numbers.virtuals() + i, x, row)
-    } else {
-        F::zero()
+    // The coefficient for row l of box number i in the plan for row r of the second part.
+    fn second_cell(&self, r: usize, i: usize, l: usize, row: &mut [F::Elem]) -> F::Elem
+        requires points { length self.now.points.now ≡ alpha self.now.numbers.now }
+        requires row { length row.old ≡ alpha self.now.numbers.now }
+        ensures { result ≡ second_weight F.Field.ops self.now.numbers.now (entry F.Field.ops self.now.points.now) self.now.x r i l }
+    {
+        if l == r && i < self.numbers.needed() - 1 {
+            lagrange_value::<F>(self.points, self.numbers.virtuals() + i, self.x, row)
+        } else {
+            F::zero()
+        }
     }
-}
 
-// The plan for row r of the second part of the node at x.
-fn second_row<F: Field>(
-    numbers: &Numbers,
-    points: &[F::Elem],
-    x: F::Elem,
-    r: usize,
-    plan: &mut [F::Elem],
-    row: &mut [F::Elem],
-)
-    requires { (length points.now ≡ alpha numbers.now) × ((length row.old ≡ alpha numbers.now) × (numbers.now.k * beta numbers.now ≤ length plan.old)) }
-    ensures { Planned F.Field.ops (numbers.now.k * beta numbers.now)
-        (λ e. second_weight F.Field.ops numbers.now (entry F.Field.ops points.now) x r (e / beta numbers.now) (e % beta numbers.now))
-        plan.old plan.new }
-{
-    let beta = numbers.beta();
-    let count = numbers.needed() * beta;
-    for e in 0..count {
-        plan[e] = second_cell::<F>(numbers, points, x, r, e / beta, e % beta, row);
+    // The plan for row r of the second part.
+    fn second_row(&self, r: usize, plan: &mut [F::Elem], row: &mut [F::Elem])
+        requires points { length self.now.points.now ≡ alpha self.now.numbers.now }
+        requires row { length row.old ≡ alpha self.now.numbers.now }
+        ensures { Same (length plan.old) (entry F.Field.ops plan.new)
+            (λ e. second_weight F.Field.ops self.now.numbers.now (entry F.Field.ops self.now.points.now) self.now.x r (e / beta self.now.numbers.now) (e % beta self.now.numbers.now)) }
+    {
+        let beta = self.numbers.beta();
+        for (e, c) in plan.iter_mut().enumerate() {
+            *c = self.second_cell(r, e / beta, e % beta, row);
+        }
     }
-}
 
-// The plan for row `row` of the node at x, over the points that count for it.
-fn row_over<F: Field>(
-    numbers: &Numbers,
-    points: &[F::Elem],
-    x: F::Elem,
-    row: usize,
-    plan: &mut [F::Elem],
-    room: &mut [F::Elem],
-)
-    requires { (length points.now ≡ points_used numbers.now row) × ((numbers.now.k * beta numbers.now ≤ length plan.old) × (96 ≤ length room.old)) }
-    ensures { Planned F.Field.ops (numbers.now.k * beta numbers.now)
-        (λ e. row_from F.Field.ops numbers.now (entry F.Field.ops points.now) x row (e / beta numbers.now) (e % beta numbers.now))
-        plan.old plan.new }
-{
-    if row < numbers.alpha() {
-        first_row::<F>(numbers, points, x, row, plan, room);
-    } else {
-        let (line, _) = room.split_at_mut(numbers.alpha());
-        second_row::<F>(numbers, points, x, row, plan, line);
+    // The plan for row `row`, over the points that count for it.
+    fn fill(&self, row: usize, plan: &mut [F::Elem], room: &mut [F::Elem])
+        requires points { length self.now.points.now ≡ points_used self.now.numbers.now row }
+        requires plan { length plan.old ≡ self.now.numbers.now.k * beta self.now.numbers.now }
+        requires room { 96 ≤ length room.old }
+        ensures { Same (length plan.old) (entry F.Field.ops plan.new)
+            (λ e. row_from F.Field.ops self.now.numbers.now (entry F.Field.ops self.now.points.now) self.now.x row (e / beta self.now.numbers.now) (e % beta self.now.numbers.now)) }
+    {
+        let alpha = self.numbers.alpha();
+        if row < alpha {
+            self.first_row(row, plan, room);
+        } else {
+            self.second_row(row, plan, &mut room[..alpha]);
+        }
     }
 }
 
@@ -163,19 +123,9 @@ fn point_count(numbers: &Numbers, row: usize) -> usize
     }
 }
 
-// Fills the points of the virtual nodes and of boxes 1, 2, 3 and so on.
-fn fill_first_points<F: Field>(numbers: &Numbers, points: &mut [F::Elem])
-    requires { length points.old ≤ 16 }
-    ensures { Same (length points.old) (entry F.Field.ops points.new) (chosen_point F.Field.ops numbers.now suc) }
-{
-    for i in 0..points.len() {
-        points[i] = F::element(i as u16 + 1);
-    }
-}
-
 // The plan for row `row` of box `to` from the rows of the k boxes of the list, in their order: k · β coefficients, that for
 // row l of box number i at i · β + l. Rows and boxes are counted on past their ends, and a short list is followed by zeros.
-// The answer is whether there was memory for it; if not, the plan is as it was. What room holds is lost.
+// Memory that is too short is refused with `Length`, and then the plan is as it was. What room holds is lost.
 pub fn read_plan<F: Field>(
     numbers: &Numbers,
     from: &[u16],
@@ -183,50 +133,34 @@ pub fn read_plan<F: Field>(
     row: usize,
     plan: &mut [F::Elem],
     room: &mut [F::Elem],
-) -> bool
+) -> Result<(), Denial>
     ensures { Made F.Field.ops (FitsPlan (numbers.now.k * beta numbers.now) plan.old room.old)
         (numbers.now.k * beta numbers.now) (from_boxes F.Field.ops numbers.now (listed from.now) to row) plan.old plan.new result }
 {
-    if !fits_plan(numbers.needed() * numbers.beta(), plan.len(), room.len()) {
-        return false;
-    }
+    let count = numbers.needed() * numbers.beta();
+    fits_plan(count, plan.len(), room.len())?;
     let (points, rest) = room.split_at_mut(point_count(numbers, row));
     fill_points::<F>(numbers, from, points);
-    row_over::<F>(
-        numbers,
-        points,
-        box_point::<F>(numbers, to),
-        row,
-        plan,
-        rest,
-    );
-    true
+    let x = box_point::<F>(numbers, to);
+    let target = Target::<F> { numbers, points, x };
+    target.fill(row, &mut plan[..count], rest);
+    Ok(())
 }
 
+// Boxes 1, 2, 3 and so on, as many as can be needed.
+const FIRST: [u16; 8] = [1, 2, 3, 4, 5, 6, 7, 8];
+
 // The plan for row `row` of box `to` from the rows of boxes 1 to k: its first B coefficients are for the rows of the data in
-// their order, and the others, for the second part of box k, are zero.
+// their order, and the others, for the second part of box k, are zero. It is refused as that plan is.
 pub fn load_plan<F: Field>(
     numbers: &Numbers,
     to: u16,
     row: usize,
     plan: &mut [F::Elem],
     room: &mut [F::Elem],
-) -> bool
+) -> Result<(), Denial>
     ensures { Made F.Field.ops (FitsPlan (numbers.now.k * beta numbers.now) plan.old room.old)
         (numbers.now.k * beta numbers.now) (from_boxes F.Field.ops numbers.now suc to row) plan.old plan.new result }
 {
-    if !fits_plan(numbers.needed() * numbers.beta(), plan.len(), room.len()) {
-        return false;
-    }
-    let (points, rest) = room.split_at_mut(point_count(numbers, row));
-    fill_first_points::<F>(numbers, points);
-    row_over::<F>(
-        numbers,
-        points,
-        box_point::<F>(numbers, to),
-        row,
-        plan,
-        rest,
-    );
-    true
+    read_plan::<F>(numbers, &FIRST, to, row, plan, room)
 }

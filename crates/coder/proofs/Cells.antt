@@ -1,5 +1,5 @@
 -- Rows of cells that are added cell by cell: what the loop has done after n turns, and what a sum of multiples means.
-use Rattle.std.proofs.Common.{◌≡◌, ℕ, zero, suc, ◌^◌, ◌<◌, ◌≤◌, eqb, ◌⊎◌, List, [], ◌∷◌, length, get_or, sym, refl, ap, ◌∙◌, inl, inr, ⊎_elim, mod-eq_of_lt, arith}
+use Rattle.std.proofs.Common.{◌≡◌, ℕ, zero, suc, ◌^◌, ◌<◌, ◌≤◌, eqb, min, List, [], ◌∷◌, length, get_or, sym, refl, ap, ◌∙◌, ⊎_elim, mod-eq_of_lt, arith}
 use Rattle.std.proofs.lemmas.List.{ext_get_or}
 use Rattle.std.proofs.lemmas.Bool.{cases_lt, cases_eq, eq-eqb, ne_eqb, cond-true, cond-false}
 use Rattle.field.specs.Laws.{Ops, Laws}
@@ -32,17 +32,12 @@ module _ {E : Type 0} (F : Ops E) (c : E) where
   abbrev pub target : List ℕ → List ℕ → ℕ → ℕ
   target row out q = sum_cell F c (get_or row q 0) (get_or out q 0)
 
-  pub written_all : (row out new : List ℕ) (n : ℕ) → n ≤ length row → n ≤ length out → (length row ≤ n) ⊎ (length out ≤ n) → length new ≡ length out →
-      Written 0 (target row out) out new n → new ≡ added F c row out
-  written_all row out new n a b e l w =
+  pub written_all : (row out new : List ℕ) (n : ℕ) → n ≡ min (length row) (length out) → length new ≡ length out → Written 0 (target row out) out new n → new ≡ added F c row out
+  written_all row out new n e l w =
       ext_get_or 0 new (added F c row out) (l ∙ sym (added_length row out)) (λ q h. ⊎_elim
       (λ u. w.done q u ∙ sym (added_at row out q (omega arith) (omega arith)))
-      (λ u. w.left q u ∙ sym (added_past row out q (past q h u e)))
+      (λ u. w.left q u ∙ sym (added_past row out q (omega arith)))
       (cases_lt q n))
-    where
-      past : (q : ℕ) → q < length new → n ≤ q → (length row ≤ n) ⊎ (length out ≤ n) → length row ≤ q
-      past q h u (inl r) = omega arith
-      past q h u (inr r) = absurd (omega arith)
 
 module _ {E : Type 0} {F : Ops E} (L : Laws F) where
   -- a code of 0 is that of zero

@@ -13,8 +13,5 @@ row_inside i k m n l h = omega (arith, mul-le-mul_right m l, suc-mul i m)
 pub plan_bound : (k b : ℕ) → k ≤ 8 → b ≤ 11 → k * b ≤ 88
 plan_bound k b l h = le_trans (mul-le-mul_right b l) (mul-le-mul_left 8 h)
 
-pub grid_bound : (k m : ℕ) → k ≤ 8 → m ≤ 9 → k * m ≤ 72
-grid_bound k m l h = le_trans (mul-le-mul_right m l) (mul-le-mul_left 8 h)
-
 pub plans_fit : PlansFit
 plans_fit N = (plan_bound N.k (beta N) (omega arith) (omega arith), omega arith, omega arith, omega arith)

@@ -1,5 +1,7 @@
 -- What the plans hold: n coefficients at the front of a list.
-use Rattle.std.specs.Prelude.{◌≡◌, ℕ, ◌≤◌, Bool, true, false, List, length}
+use Rattle.std.specs.Prelude.{◌≡◌, ℕ, ◌≤◌, Ok, Err, Result, List, length}
+use Rattle.refusal.specs.declared.denial.Denial.{Denial}
+use Rattle.refusal.specs.declared.denial.Denial.TheVariants.{Length}
 use Rattle.field.specs.Laws.{Ops}
 use Rattle.algebra.specs.Poly.{Same}
 use Rattle.algebra.specs.Cells.{entry}
@@ -22,7 +24,7 @@ room = 128
 abbrev pub FitsPlan : {E : Type 0} → ℕ → List E → List E → Type 0
 FitsPlan n plan work = (n ≤ length plan) × (room ≤ length work)
 
--- A plan is made, and answered by true, where it fits into the memory; else it stays as it was.
-abbrev pub Made : {E : Type 0} → Ops E → Type 0 → ℕ → (ℕ → E) → List E → List E → Bool → Type 0
-Made F fits n weight old new true = fits × Planned F n weight old new
-Made F fits n weight old new false = (fits → ⊥) × (new ≡ old)
+-- A plan is made where it fits into the memory; else it is refused for the length, and stays as it was.
+abbrev pub Made : {E : Type 0} → Ops E → Type 0 → ℕ → (ℕ → E) → List E → List E → Result Unit Denial → Type 0
+Made F fits n weight old new (Ok _) = fits × Planned F n weight old new
+Made F fits n weight old new (Err e) = (e ≡ Length) × (fits → ⊥) × (new ≡ old)

@@ -1,33 +1,24 @@
 // The one loop over symbols: a row of 16-bit cells gets a multiple of another row added.
-ghost use Rattle.std.specs.Prelude.{◌≡◌, ℕ, ◌<◌, ◌≤◌, ◌⊎◌, length};
+ghost use Rattle.std.specs.Prelude.{◌≡◌};
 ghost use Rattle.coder.specs.Cells.{added, folded};
 
 use field::Field;
 
-// The smaller of the two.
-fn shorter(a: usize, b: usize) -> usize
-    ensures { (result ≤ a) × (result ≤ b) × ((a ≤ result) ⊎ (b ≤ result)) }
-{
-    if a < b { a } else { b }
-}
-
-// Adds row to out.
-fn add_row<F: Field>(row: &[u16], out: &mut [u16])
-    ensures { out.new ≡ added F.Field.ops F.Field.ops.one row.now out.old }
-{
-    let n = shorter(row.len(), out.len());
-    for q in 0..n {
-        out[q] = F::code(F::add(F::element(out[q]), F::element(row[q])));
-    }
-}
-
-// Adds c times row to out.
-fn add_times<F: Field>(c: F::Elem, row: &[u16], out: &mut [u16])
+// Adds c times row to out, where `times` multiplies by c.
+fn add_each<F: Field, G: Fn(F::Elem, F::Elem) -> F::Elem>(
+    c: F::Elem,
+    times: G,
+    row: &[u16],
+    out: &mut [u16],
+)
+    requires callable { G.IsAlwaysCallable times }
+    requires multiple { (x y : _) → G.post times c x y → y ≡ F.Field.ops.mul c x }
     ensures { out.new ≡ added F.Field.ops c row.now out.old }
 {
-    let n = shorter(row.len(), out.len());
-    for q in 0..n {
-        out[q] = F::code(F::add(F::element(out[q]), F::mul(c, F::element(row[q]))));
+    let n = row.len().min(out.len());
+    // The cell of out by its number: after `out.iter_mut().zip(row)` nothing is known of out.
+    for (q, r) in row[..n].iter().enumerate() {
+        out[q] = F::code(F::add(F::element(out[q]), times(c, F::element(*r))));
     }
 }
 
@@ -40,8 +31,8 @@ pub fn apply<F: Field>(c: F::Elem, row: &[u16], out: &mut [u16])
         return;
     }
     if F::equal(c, F::one()) {
-        add_row::<F>(row, out);
+        add_each::<F, _>(c, |_, x| x, row, out);
     } else {
-        add_times::<F>(c, row, out);
+        add_each::<F, _>(c, |c, x| F::mul(c, x), row, out);
     }
 }

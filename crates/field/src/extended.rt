@@ -1,4 +1,5 @@
-// A field of polynomials as one that can be extended: the same operations, and ν.
+// A field of polynomials as one that can be extended: the same operations, and ν. As the interface stands alone, each is handed
+// on here once more, in a line.
 ghost use Rattle.field.specs.Residues.{modulo};
 ghost use Rattle.field.specs.Fields;
 ghost use Rattle.field.specs.Fields.{no_root};

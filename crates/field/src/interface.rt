@@ -24,6 +24,7 @@ pub trait Field {
     fn mul(a: Self::Elem, b: Self::Elem) -> Self::Elem
         ensures { result ≡ ops.mul a b };
 
+    // A function of the interface, which asks `Copy` alone of an element: `==` would ask more of who offers a field.
     fn equal(a: Self::Elem, b: Self::Elem) -> bool
         ensures { (result ≡ true → a ≡ b) × (a ≡ b → result ≡ true) };
 
@@ -43,7 +44,8 @@ pub trait Field {
     ghost laws: { Laws ops };
 }
 
-// A field of at most 2^8 elements with an element ν that is no y·y + y: pairs over it make a field again.
+// A field of at most 2^8 elements with an element ν that is no y·y + y: pairs over it make a field again. The project asks for
+// an interface that stands alone, so that it has the functions of `Field` once more.
 pub trait Extensible {
     type Elem: Copy;
 

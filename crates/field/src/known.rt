@@ -18,10 +18,7 @@ fn product_of<F: Field>(a: u16, b: u16) -> u16
 fn inverse_of<F: Field>(a: u16) -> u16
     ensures { result ≡ inverse_code F.Field.ops a }
 {
-    match F::inverse(F::element(a)) {
-        Some(i) => F::code(i),
-        None => 0,
-    }
+    F::inverse(F::element(a)).map_or(0, |i| F::code(i))
 }
 
 // The figures hold of the definitions.

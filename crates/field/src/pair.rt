@@ -83,13 +83,11 @@ impl<B: Extensible> Field for Pair<B> {
     }
 
     fn inverse(a: Pair<B::Elem>) -> Option<Pair<B::Elem>> {
-        match norm_inverse::<B>(a) {
-            None => None,
-            Some(i) => Some(Pair {
-                low: B::mul(B::add(a.low, a.high), i),
-                high: B::mul(a.high, i),
-            }),
-        }
+        let i = norm_inverse::<B>(a)?;
+        Some(Pair {
+            low: B::mul(B::add(a.low, a.high), i),
+            high: B::mul(a.high, i),
+        })
     }
 
     fn code(a: Pair<B::Elem>) -> u16 {

@@ -7,7 +7,8 @@ ghost use Rattle.std.proofs.Common.{rules};
 
 use crate::interface::Field;
 
-// The tables of a modulus p of degree m, of which X is a generator, and the elements modulo p.
+// The tables of a modulus p of degree m, of which X is a generator, and the elements modulo p. An implementation says its own
+// numbers and tables, each function in a line: no const parameter can hold a table.
 pub trait Tables {
     type Elem: Copy;
 

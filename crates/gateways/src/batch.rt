@@ -1,16 +1,20 @@
 // A record spread over gateways: gateway i keeps the value at the point of code i of the polynomial whose coefficients
 // are the record's symbols. Any as many gateways as the record has symbols give it back.
-ghost use Rattle.std.specs.Prelude.{◌≡◌, ℕ, ◌+◌, ◌-◌, ◌^◌, ◌<◌, ◌≤◌, true, false, List, map, length, IfOk, vec_len, OnOk};
+ghost use Rattle.std.specs.Prelude.{◌<◌, ◌≡◌, ℕ, ◌+◌, ◌-◌, ◌^◌, true, map, length, IfOk, vec_len, OnOk, Some};
 ghost use Rattle.algebra.specs.Cells.{entry};
 ghost use Rattle.algebra.specs.Poly.{Apart, poly, Through};
 ghost use Rattle.gateways.specs.Spread.{AllBelow, Named};
+ghost use Rattle.gateways.specs.Messages.{message};
+ghost use Rattle.gateways.specs.declared.batch.Trouble.TheVariants.{Memory, Answers};
 
 use algebra::{Unsolved, interpolate, value};
 use field::Field;
 use std::alloc::{AllocError, AllocFailed, Global};
+use std::error::Error;
+use std::fmt;
 
 // Why a record does not come back.
-#[derive(Drop)]
+#[derive(Clone, Copy, PartialEq, Eq, Debug)]
 pub enum Trouble {
     // There is no memory.
     Memory,
@@ -22,19 +26,40 @@ pub enum Trouble {
     Answers,
 }
 
+impl fmt::Display for Trouble {
+    ghost output = { λ t. Some (message t) };
+
+    fn fmt<W: fmt::Write>(&self, f: &mut fmt::Formatter<W>) -> fmt::Result {
+        match self {
+            Trouble::Memory => write!(f, "no memory"),
+            Trouble::Symbol => write!(f, "a symbol of the record is no code of the field"),
+            Trouble::Gateway(_) => write!(f, "there is no such gateway"),
+            Trouble::Answers => write!(f, "the gateways that answer do not fix the record"),
+        }
+    }
+}
+
+impl Error for Trouble {}
+
 impl From<AllocError> for Trouble {
+    ghost from_gives = { λ _ e. e ≡ Memory };
+
     fn from(_e: AllocError) -> Trouble {
         Trouble::Memory
     }
 }
 
 impl<T: Drop> From<AllocFailed<T>> for Trouble {
+    ghost from_gives = { λ _ e. e ≡ Memory };
+
     fn from(_e: AllocFailed<T>) -> Trouble {
         Trouble::Memory
     }
 }
 
 impl From<Unsolved> for Trouble {
+    ghost from_gives = { λ _ e. e ≡ Answers };
+
     fn from(_e: Unsolved) -> Trouble {
         Trouble::Answers
     }
@@ -44,32 +69,20 @@ impl From<Unsolved> for Trouble {
 pub fn elements<F: Field>(heap: Global, codes: &[u16]) -> Result<Vec<F::Elem>, AllocError>
     ensures { IfOk result (λ v. v.items ≡ map F.Field.ops.element codes.now) }
 {
-    let mut v = Vec::new(heap);
-    for c in codes {
-        v.push(F::element(*c))?;
-    }
-    Ok(v)
+    codes.iter().map(|c| F::element(*c)).collect(heap)
 }
 
 // The codes of these elements.
 pub fn codes<F: Field>(heap: Global, elements: &[F::Elem]) -> Result<Vec<u16>, AllocError>
     ensures { IfOk result (λ v. v.items ≡ map F.Field.ops.code elements.now) }
 {
-    let mut v = Vec::new(heap);
-    for e in elements {
-        v.push(F::code(*e))?;
-    }
-    Ok(v)
+    elements.iter().map(|e| F::code(*e)).collect(heap)
 }
 
 fn zeros<F: Field>(heap: Global, n: usize) -> Result<Vec<F::Elem>, AllocError>
     ensures { IfOk result (λ v. vec_len v ≡ n) }
 {
-    let mut v = Vec::new(heap);
-    for _i in 0..n {
-        v.push(F::zero())?;
-    }
-    Ok(v)
+    (0..n).map(|_| F::zero()).collect(heap)
 }
 
 // What gateways 1 to n hold of the polynomial.
@@ -77,11 +90,9 @@ fn held<F: Field>(heap: Global, batch: &[F::Elem], n: u16) -> Result<Vec<F::Elem
     ensures len { IfOk result (λ v. vec_len v ≡ n) }
     ensures value { IfOk result (λ v. (k : ℕ) → k < n → entry F.Field.ops v.items k ≡ poly F.Field.ops (length batch.now) (entry F.Field.ops batch.now) (F.Field.ops.element (k + 1))) }
 {
-    let mut v = Vec::new(heap);
-    for i in 0..n {
-        v.push(value::<F>(batch, F::element(i + 1)))?;
-    }
-    Ok(v)
+    (1..=n)
+        .map(|i| value::<F>(batch, F::element(i)))
+        .collect(heap)
 }
 
 // What the gateways that answer hold, in the order in which they are named.
@@ -95,10 +106,9 @@ fn answers<F: Field>(
 {
     let mut v = Vec::new(heap);
     for a in answering {
-        if *a == 0 || *a as usize > held.len() {
-            return Err(Trouble::Gateway(*a));
-        }
-        v.push(held[*a as usize - 1])?;
+        // No gateway is 0: its place wraps past the end.
+        let place = usize::from(*a).wrapping_sub(1);
+        v.push(*held.get(place).ok_or(Trouble::Gateway(*a))?)?;
     }
     Ok(v)
 }
@@ -123,12 +133,7 @@ fn restored<F: Field>(
 fn all_codes<F: Field>(batch: &[u16]) -> bool
     ensures { result ≡ true → AllBelow (2 ^ F.Field.ops.bits) batch.now }
 {
-    for s in batch {
-        if F::code(F::element(*s)) != *s {
-            return false;
-        }
-    }
-    true
+    batch.iter().all(|s| F::code(F::element(*s)) == *s)
 }
 
 // What each of the n gateways holds, and what the answering ones give back, by their codes.

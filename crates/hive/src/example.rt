@@ -1,7 +1,8 @@
 // The first worked example of the code: six boxes over the nibble field, k = 3, r = 3, d = 4, t = 2, w = 1, from the
 // matrices S, T and Z, and the segments by which boxes 1 and 2 are refilled.
 use crate::report::Spaced;
-use anyhow::anyhow;
+use crate::stop::Stop;
+use anyhow::Context;
 use beehive::{Numbers, first_entry, node_of, second_entry, segment_of};
 use field::Field;
 use gateways::{codes, elements};
@@ -20,27 +21,20 @@ fn block<F: Field>(heap: Global, numbers: &Numbers, i: u16) -> anyhow::Result<Ve
     let times_mu = elements::<F>(heap, &TIMES_MU)?;
     let second = elements::<F>(heap, &SECOND)?;
     let node = node_of(numbers, i);
-    let mut rows = Vec::new(heap);
-    for j in 0..numbers.alpha() {
-        if let Some(entry) = first_entry::<F>(numbers, node, &free, &times_mu, j) {
-            rows.push(entry)?;
-        }
-    }
-    for q in 0..numbers.tail() {
-        if let Some(entry) = second_entry::<F>(numbers, node, &second, q) {
-            rows.push(entry)?;
-        }
-    }
-    Ok(rows)
+    let firsts = (0..numbers.alpha()).filter_map(|j| first_entry::<F>(
+        numbers, node, &free, &times_mu, j,
+    ));
+    let seconds = (0..numbers.tail()).filter_map(|q| second_entry::<F>(numbers, node, &second, q));
+    Ok(firsts.chain(seconds).collect(heap)?)
 }
 
 // The code of the segment from box i about box j.
 fn sent<F: Field>(heap: Global, numbers: &Numbers, i: u16, j: u16) -> anyhow::Result<u16> {
     let held = block::<F>(heap, numbers, i)?;
-    match segment_of::<F>(numbers, node_of(numbers, i), node_of(numbers, j), &held) {
-        Some(segment) => Ok(F::code(segment)),
-        None => Err(anyhow!("the block is not of the stripe's rows")),
-    }
+    let segment = segment_of::<F>(numbers, node_of(numbers, i), node_of(numbers, j), &held).context(
+        "the block is not of the stripe's rows",
+    )?;
+    Ok(F::code(segment))
 }
 
 // The segments that the helpers 3 to 6 send to box j.
@@ -77,9 +71,7 @@ fn segments<F: Field>(rt: &HostRuntime, numbers: &Numbers) -> anyhow::Result<()>
 
 // Prints the blocks, and the segments of the repair of boxes 1 and 2.
 pub(crate) fn six_boxes<F: Field>(rt: &HostRuntime) -> anyhow::Result<()> {
-    let Ok(numbers) = Numbers::new(3, 3, 4, 2, 1) else {
-        return Err(anyhow!("the numbers are outside the limits"));
-    };
+    let numbers = Numbers::new(3, 3, 4, 2, 1).map_err(Stop::from)?;
     blocks::<F>(rt, &numbers)?;
     segments::<F>(rt, &numbers)
 }

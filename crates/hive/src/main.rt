@@ -3,14 +3,14 @@
 
 mod edges;
 mod example;
-mod memory;
+mod job;
 mod repaired;
 mod report;
 mod rows;
 mod stop;
 mod whole;
 
-use edges::{large_edges, small_edges};
+use edges::{LARGE, SMALL, edges};
 use example::six_boxes;
 use field::{Bytes, Nibbles, Pair};
 use repaired::repaired;
@@ -60,8 +60,8 @@ fn run(rt: &HostRuntime) -> anyhow::Result<()> {
 // The same task at the edges of the numbers, each line saying only whether it held.
 fn at_the_edges(rt: &HostRuntime) -> anyhow::Result<()> {
     rt.println("The same at the edges of the numbers.")?;
-    small_edges::<Nibbles>(rt, "nibble")?;
-    small_edges::<Pair<Bytes>>(rt, "pair over byte")?;
-    large_edges::<Bytes>(rt, "byte")?;
-    large_edges::<Pair<Nibbles>>(rt, "pair over nibble")
+    edges::<Nibbles>(rt, "nibble", &SMALL)?;
+    edges::<Pair<Bytes>>(rt, "pair over byte", &SMALL)?;
+    edges::<Bytes>(rt, "byte", &LARGE)?;
+    edges::<Pair<Nibbles>>(rt, "pair over nibble", &LARGE)
 }

@@ -1,7 +1,6 @@
 // What is printed of each task.
-use anyhow::anyhow;
 use field::Field;
-use gateways::{Trouble, spread};
+use gateways::spread;
 use std::fmt;
 
 // How many gateways keep a record, which are lost, and which answer.
@@ -34,10 +33,7 @@ pub(crate) fn batch_record<F: Field>(
     let bits = F::bits();
     println!(rt; "{name} field, {bits} bits a symbol")?;
     println!(rt; "  record:{}", Spaced(batch))?;
-    let kept = match spread::<F>(heap, batch, GATEWAYS, &ANSWERING) {
-        Ok(kept) => kept,
-        Err(trouble) => return Err(explained(trouble)),
-    };
+    let kept = spread::<F>(heap, batch, GATEWAYS, &ANSWERING)?;
     for (i, value) in kept.held.iter().enumerate() {
         println!(rt; "  gateway {} holds {value}", i + 1)?;
     }
@@ -45,13 +41,4 @@ pub(crate) fn batch_record<F: Field>(
     println!(rt; "  answering:{}", Spaced(&ANSWERING))?;
     println!(rt; "  came back:{}", Spaced(&kept.back))?;
     Ok(())
-}
-
-fn explained(trouble: Trouble) -> anyhow::Error {
-    match trouble {
-        Trouble::Memory => anyhow!("no memory"),
-        Trouble::Symbol => anyhow!("a symbol of the record is no code of the field"),
-        Trouble::Gateway(_) => anyhow!("there is no such gateway"),
-        Trouble::Answers => anyhow!("the gateways that answer do not fix the record"),
-    }
 }

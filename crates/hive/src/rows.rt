@@ -1,46 +1,53 @@
 // Rows of symbols, one after the other.
+ghost use Rattle.std.specs.Prelude.{◌≤◌};
+
+use crate::report::Spaced;
+use beehive::Numbers;
 use std::alloc::{AllocError, Global};
+use std::fmt;
+use std::slice::Chunks;
 
 // Rows of `width` cells of 16 bits each.
-#[derive(Drop)]
+#[derive(Drop, PartialEq, Eq)]
 pub(crate) struct Rows {
     width: usize,
     cells: Vec<u16>,
+    ghost some: { 1 ≤ width },
 }
 
 impl Rows {
-    pub(crate) fn new(heap: Global, width: usize) -> Rows {
+    // No rows as yet, for those of a stripe.
+    pub(crate) fn new(heap: Global, numbers: &Numbers) -> Rows {
         Rows {
-            width,
+            width: numbers.width(),
             cells: Vec::new(heap),
         }
     }
 
-    pub(crate) fn width(&self) -> usize {
-        self.width
+    pub(crate) fn rows(&self) -> Chunks<'_, u16>
+        ensures { 1 ≤ result.size }
+    {
+        self.cells.chunks(self.width)
     }
 
-    pub(crate) fn cells(&self) -> &[u16] {
-        &self.cells
-    }
-
-    // Row number i; past the last one, a row of no cells.
-    pub(crate) fn row(&self, i: usize) -> &[u16] {
-        let start = i.wrapping_mul(self.width);
-        let end = start.wrapping_add(self.width);
-        self.cells.get(start..end).unwrap_or(&[])
+    pub(crate) fn copied(&self) -> Result<Rows, AllocError> {
+        Ok(Rows {
+            width: self.width,
+            cells: self.cells.clone()?,
+        })
     }
 
     pub(crate) fn push_row(&mut self, row: &[u16]) -> Result<(), AllocError> {
         self.cells.extend_from_slice(row)
     }
+}
 
-    pub(crate) fn push_cell(&mut self, cell: u16) -> Result<(), AllocError> {
-        self.cells.push(cell)?;
+// In a line, each row after a space and before one.
+impl fmt::Display for Rows {
+    fn fmt<W: fmt::Write>(&self, f: &mut fmt::Formatter<W>) -> fmt::Result {
+        for row in self.rows() {
+            write!(f, "{} ", Spaced(row))?;
+        }
         Ok(())
-    }
-
-    pub(crate) fn same(&self, other: &Rows) -> bool {
-        self.cells() == other.cells()
     }
 }

@@ -1,20 +1,25 @@
 // Why a task stops before its end.
-use anyhow::anyhow;
 use refusal::Denial;
-use std::alloc::AllocError;
+use std::alloc::{AllocError, AllocFailed};
+use std::error::Error;
+use std::fmt;
 
-#[derive(Drop)]
+#[derive(Clone, Copy, Debug)]
 pub(crate) enum Stop {
     // There is no memory.
     Memory,
-    // The memory for a plan is too short.
-    Room,
-    // The stripe's numbers were refused.
+    // The stripe's numbers, or the memory for a plan, were refused.
     Denied(Denial),
 }
 
 impl From<AllocError> for Stop {
     fn from(_e: AllocError) -> Stop {
+        Stop::Memory
+    }
+}
+
+impl<T: Drop> From<AllocFailed<T>> for Stop {
+    fn from(_e: AllocFailed<T>) -> Stop {
         Stop::Memory
     }
 }
@@ -25,17 +30,14 @@ impl From<Denial> for Stop {
     }
 }
 
-impl Stop {
-    pub(crate) fn explained(self) -> anyhow::Error {
+impl fmt::Display for Stop {
+    fn fmt<W: fmt::Write>(&self, f: &mut fmt::Formatter<W>) -> fmt::Result {
         match self {
-            Stop::Memory => anyhow!("no memory"),
-            Stop::Room => anyhow!("the memory for a plan is too short"),
-            Stop::Denied(_) => anyhow!("the numbers are outside the limits"),
+            Stop::Memory => write!(f, "no memory"),
+            Stop::Denied(Denial::Length) => write!(f, "the memory for a plan is too short"),
+            Stop::Denied(_) => write!(f, "the numbers are outside the limits"),
         }
     }
 }
 
-// What a plan's answer means for a task: it goes on where there was memory for the plan.
-pub(crate) fn planned(made: bool) -> Result<(), Stop> {
-    if made { Ok(()) } else { Err(Stop::Room) }
-}
+impl Error for Stop {}

@@ -32,11 +32,14 @@ module _ {E : Type 0} (F : Ops E) (N : Numbers) where
   abbrev pub pass_poly : (ℕ → ℕ) → ℕ → ℕ → E
   pass_poly others = lagrange F (tail N) (λ m. point F N (node N (others m)))
 
+  -- What a share of the first part of box j is to the pass of the box at the point p, times the weight of that pass.
+  abbrev pub pass_term : ℕ → (ℕ → E) → E → E → E
+  pass_term j share p weight = F.mul (F.mul (F.inv (F.add (mu F N (node N j)) (power F p (alpha N)))) (poly F (alpha N) share p)) weight
+
   -- Row q of the second part of box j, over the segment of helper number i: what each pass holds of the first part is taken
   -- away, by the weight of the pass. Here for any points of the boxes that pass, and any weights.
   abbrev pub tail_over : ℕ → (ℕ → ℕ) → (ℕ → E) → (ℕ → E) → ℕ → E
-  tail_over j helpers passes weights i = sum F (tail N) (λ m.
-      F.mul (F.mul (F.inv (F.add (mu F N (node N j)) (power F (passes m) (alpha N)))) (poly F (alpha N) (helper_share j helpers i) (passes m))) (weights m))
+  tail_over j helpers passes weights i = sum F (tail N) (λ m. pass_term j (helper_share j helpers i) (passes m) (weights m))
 
   abbrev pub second_over : ℕ → (ℕ → ℕ) → (ℕ → E) → (ℕ → E) → ℕ → E
   second_over j helpers passes weights c = cond (nat_lt c N.d) (tail_over j helpers passes weights c) (weights (c - N.d))

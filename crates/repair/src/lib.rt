@@ -2,6 +2,7 @@
 #![tactic(auto)]
 
 mod help;
+mod helped;
 mod settle;
 mod theorems;
 

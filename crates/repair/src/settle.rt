@@ -1,302 +1,155 @@
 // Plans of a newcomer's rows from the segments that came to it: d from helpers, and t − 1 passed by the other newcomers.
-ghost use Rattle.std.specs.Prelude.{◌≡◌, ℕ, suc, ◌+◌, ◌-◌, ◌*◌, ◌<◌, ◌≤◌, true, false, cond, length};
-ghost use Rattle.algebra.specs.Poly.{sum, power, poly, Same};
+ghost use Rattle.std.specs.Prelude.{◌<◌, ◌≡◌, ◌+◌, ◌≤◌, length};
+ghost use Rattle.algebra.specs.Poly.{sum, Same};
 ghost use Rattle.algebra.specs.Cells.{entry};
-ghost use Rattle.beehive.specs.Numbers.{alpha, tail, beta, virtuals, node};
+ghost use Rattle.beehive.specs.Numbers.{alpha, tail, node};
 ghost use Rattle.beehive.specs.Points.{point, mu};
-ghost use Rattle.coder.specs.Points.{listed, chosen_point, lagrange};
-ghost use Rattle.repair.specs.Repair.{helper_share, tail_over, second_over, settle_first, settle_second, settle_weight};
-ghost use Rattle.coder.specs.Plans.{Planned, FitsPlan, Made};
+ghost use Rattle.coder.specs.Points.{listed, lagrange};
+ghost use Rattle.repair.specs.Repair.{helper_share, pass_term, settle_first, settle_second, settle_weight};
+ghost use Rattle.coder.specs.Plans.{FitsPlan, Made};
 
+use crate::helped::Helped;
 use algebra::value;
 use beehive::{Numbers, inverted, raised};
-use coder::{box_mu, box_point, coefficient, fill_points, fits_plan, lagrange_row, list_entry};
+use coder::{box_point, coefficient, fits_plan, lagrange_row, list_entry};
 use field::Field;
-
-// The point of box number m of a list.
-fn other_point<F: Field>(numbers: &Numbers, list: &[u16], m: usize) -> F::Elem
-    ensures { result ≡ point F.Field.ops numbers.now (node numbers.now (listed list.now m)) }
-{
-    box_point::<F>(numbers, list_entry(list, m))
-}
+use refusal::Denial;
 
 // Fills the points of the boxes of a list.
 fn fill_others<F: Field>(numbers: &Numbers, list: &[u16], points: &mut [F::Elem])
     ensures { Same (length points.old) (entry F.Field.ops points.new) (λ m. point F.Field.ops numbers.now (node numbers.now (listed list.now m))) }
 {
-    for m in 0..points.len() {
-        points[m] = other_point::<F>(numbers, list, m);
+    for (m, cell) in points.iter_mut().enumerate() {
+        *cell = box_point::<F>(numbers, list_entry(list, m));
     }
-}
-
-// μ(h) + μ(j) for the helper h of number i.
-fn helper_sum<F: Field>(numbers: &Numbers, helpers: &[u16], j: u16, i: usize) -> F::Elem
-    ensures { result ≡ F.Field.ops.add (mu F.Field.ops numbers.now (node numbers.now (listed helpers.now i))) (mu F.Field.ops numbers.now (node numbers.now j)) }
-{
-    let own = box_mu::<F>(numbers, j);
-    F::add(box_mu::<F>(numbers, list_entry(helpers, i)), own)
-}
-
-// Coefficient k of a times the lower half of line and μ times its upper half.
-fn joined_halves<F: Field>(
-    line: &[F::Elem],
-    half: usize,
-    a: F::Elem,
-    mu: F::Elem,
-    k: usize,
-) -> F::Elem
-    requires { half + k < length line.now }
-    ensures { result ≡ F.Field.ops.mul a (F.Field.ops.add (entry F.Field.ops line.now k) (F.Field.ops.mul mu (entry F.Field.ops line.now (half + k)))) }
-{
-    let upper = coefficient::<F>(line, half + k);
-    F::mul(a, F::add(coefficient::<F>(line, k), F::mul(mu, upper)))
-}
-
-// The coefficient of the segment from helper number i in row k of the first part of box j. What line holds is lost.
-fn first_share<F: Field>(
-    numbers: &Numbers,
-    helpers: &[u16],
-    points: &[F::Elem],
-    j: u16,
-    i: usize,
-    k: usize,
-    line: &mut [F::Elem],
-) -> F::Elem
-    requires in_range { (i < numbers.now.d) × ((k < alpha numbers.now) × ((length points.now ≡ alpha numbers.now + alpha numbers.now) × (length line.old ≡ alpha numbers.now + alpha numbers.now))) }
-    requires same { Same (alpha numbers.now + alpha numbers.now) (entry F.Field.ops points.now) (chosen_point F.Field.ops numbers.now (listed helpers.now)) }
-    ensures { result ≡ helper_share F.Field.ops numbers.now j (listed helpers.now) i k }
-{
-    lagrange_row::<F>(points, numbers.virtuals() + i, line);
-    joined_halves::<F>(
-        line,
-        numbers.alpha(),
-        helper_sum::<F>(numbers, helpers, j, i),
-        box_mu::<F>(numbers, j),
-        k,
-    )
-}
-
-// Coefficient c of the plan for row r of the first part: a pass gives nothing to it.
-fn settle_first_cell<F: Field>(
-    numbers: &Numbers,
-    helpers: &[u16],
-    points: &[F::Elem],
-    j: u16,
-    r: usize,
-    c: usize,
-    line: &mut [F::Elem],
-) -> F::Elem
-    requires in_range { (r < alpha numbers.now) × ((length points.now ≡ alpha numbers.now + alpha numbers.now) × (length line.old ≡ alpha numbers.now + alpha numbers.now)) }
-    requires same { Same (alpha numbers.now + alpha numbers.now) (entry F.Field.ops points.now) (chosen_point F.Field.ops numbers.now (listed helpers.now)) }
-    ensures { result ≡ settle_first F.Field.ops numbers.now j (listed helpers.now) r c }
-{
-    if c < numbers.helpers() {
-        first_share::<F>(numbers, helpers, points, j, c, r, line)
-    } else {
-        F::zero()
-    }
-}
-
-// Fills the plan for row r of the first part.
-fn fill_settle_first<F: Field>(
-    numbers: &Numbers,
-    helpers: &[u16],
-    points: &[F::Elem],
-    j: u16,
-    r: usize,
-    plan: &mut [F::Elem],
-    line: &mut [F::Elem],
-)
-    requires in_range { (r < alpha numbers.now) × ((numbers.now.d + tail numbers.now ≤ length plan.old) × ((length points.now ≡ alpha numbers.now + alpha numbers.now) × (length line.old ≡ alpha numbers.now + alpha numbers.now))) }
-    requires same { Same (alpha numbers.now + alpha numbers.now) (entry F.Field.ops points.now) (chosen_point F.Field.ops numbers.now (listed helpers.now)) }
-    ensures { Planned F.Field.ops (numbers.now.d + tail numbers.now) (settle_first F.Field.ops numbers.now j (listed helpers.now) r) plan.old plan.new }
-{
-    let count = numbers.helpers() + numbers.tail();
-    for c in 0..count {
-        plan[c] = settle_first_cell::<F>(numbers, helpers, points, j, r, c, line);
-    }
-}
-
-// Fills the coefficients of the segment from helper number i in the rows of the first part of box j. What line holds is lost.
-fn fill_share<F: Field>(
-    numbers: &Numbers,
-    helpers: &[u16],
-    points: &[F::Elem],
-    j: u16,
-    i: usize,
-    share: &mut [F::Elem],
-    line: &mut [F::Elem],
-)
-    requires in_range { (i < numbers.now.d) × ((length share.old ≡ alpha numbers.now) × ((length points.now ≡ alpha numbers.now + alpha numbers.now) × (length line.old ≡ alpha numbers.now + alpha numbers.now))) }
-    requires same { Same (alpha numbers.now + alpha numbers.now) (entry F.Field.ops points.now) (chosen_point F.Field.ops numbers.now (listed helpers.now)) }
-    ensures { Same (alpha numbers.now) (entry F.Field.ops share.new) (helper_share F.Field.ops numbers.now j (listed helpers.now) i) }
-{
-    for k in 0..share.len() {
-        share[k] = first_share::<F>(numbers, helpers, points, j, i, k, line);
-    }
-}
-
-// (μ + pⁿ)⁻¹ · share(p) · weight: what a share of the first part is to the pass of the box at p, times the weight of that pass.
-fn pass_term<F: Field>(
-    share: &[F::Elem],
-    mu: F::Elem,
-    n: usize,
-    p: F::Elem,
-    weight: F::Elem,
-) -> F::Elem
-    ensures { result ≡ F.Field.ops.mul (F.Field.ops.mul (F.Field.ops.inv (F.Field.ops.add mu (power F.Field.ops p n))) (poly F.Field.ops (length share.now) (entry F.Field.ops share.now) p)) weight }
-{
-    let ratio = inverted::<F>(F::add(mu, raised::<F>(p, n)));
-    F::mul(F::mul(ratio, value::<F>(share, p)), weight)
-}
-
-// The sum of these terms over the boxes that pass, at the given points and with the given weights.
-fn pass_sum<F: Field>(
-    share: &[F::Elem],
-    mu: F::Elem,
-    n: usize,
-    passes: &[F::Elem],
-    weights: &[F::Elem],
-) -> F::Elem
-    ensures { result ≡ sum F.Field.ops (length passes.now) (λ m. F.Field.ops.mul (F.Field.ops.mul (F.Field.ops.inv (F.Field.ops.add mu (power F.Field.ops (entry F.Field.ops passes.now m) n)))
-        (poly F.Field.ops (length share.now) (entry F.Field.ops share.now) (entry F.Field.ops passes.now m))) (entry F.Field.ops weights.now m)) }
-{
-    let mut total = F::zero();
-    for m in 0..passes.len() {
-        total = F::add(
-            total,
-            pass_term::<F>(
-                share,
-                mu,
-                n,
-                coefficient::<F>(passes, m),
-                coefficient::<F>(weights, m),
-            ),
-        );
-    }
-    total
 }
 
 // Fills coefficient q of the Lagrange polynomials of the points, one for each. What line holds is lost.
-fn fill_pass_weights<F: Field>(
-    passes: &[F::Elem],
+//
+// A loop, and not a function that is called with a closure: after `fill_with(cells, f)` over `FnMut(usize)` a proof knows each
+// cell as what f may give in some state, and no longer that this state holds the same points and a line of this length.
+fn fill_weights<F: Field>(
+    points: &[F::Elem],
     q: usize,
     weights: &mut [F::Elem],
     line: &mut [F::Elem],
 )
-    requires { (length weights.old ≡ length passes.now) × (length line.old ≡ length passes.now) }
-    ensures { Same (length passes.now) (entry F.Field.ops weights.new) (λ m. lagrange F.Field.ops (length passes.now) (entry F.Field.ops passes.now) m q) }
+    requires weights { length weights.old ≡ length points.now }
+    requires coefficients { length line.old ≡ length points.now }
+    ensures { Same (length points.now) (entry F.Field.ops weights.new) (λ m. lagrange F.Field.ops (length points.now) (entry F.Field.ops points.now) m q) }
 {
-    for m in 0..passes.len() {
-        lagrange_row::<F>(passes, m, line);
-        weights[m] = coefficient::<F>(line, q);
+    for (m, cell) in weights.iter_mut().enumerate() {
+        lagrange_row::<F>(points, m, line);
+        *cell = coefficient::<F>(line, q);
     }
 }
 
-// The coefficient of the segment from helper number i in a row of the second part, by the points and the weights of the passes.
-fn second_share<F: Field>(
-    numbers: &Numbers,
-    helpers: &[u16],
-    points: &[F::Elem],
-    passes: &[F::Elem],
-    weights: &[F::Elem],
-    j: u16,
-    i: usize,
-    share: &mut [F::Elem],
-    line: &mut [F::Elem],
-) -> F::Elem
-    requires in_range { (i < numbers.now.d) × ((length passes.now ≡ tail numbers.now) × ((length share.old ≡ alpha numbers.now) × ((length points.now ≡ alpha numbers.now + alpha numbers.now) × (length line.old ≡ alpha numbers.now + alpha numbers.now)))) }
-    requires same { Same (alpha numbers.now + alpha numbers.now) (entry F.Field.ops points.now) (chosen_point F.Field.ops numbers.now (listed helpers.now)) }
-    ensures { result ≡ tail_over F.Field.ops numbers.now j (listed helpers.now) (entry F.Field.ops passes.now) (entry F.Field.ops weights.now) i }
-{
-    fill_share::<F>(numbers, helpers, points, j, i, share, line);
-    pass_sum::<F>(
-        share,
-        box_mu::<F>(numbers, j),
-        numbers.alpha(),
-        passes,
-        weights,
-    )
-}
-
-// Coefficient c of the plan for a row of the second part.
-fn settle_second_cell<F: Field>(
-    numbers: &Numbers,
-    helpers: &[u16],
-    points: &[F::Elem],
-    passes: &[F::Elem],
-    weights: &[F::Elem],
-    j: u16,
-    c: usize,
-    share: &mut [F::Elem],
-    line: &mut [F::Elem],
-) -> F::Elem
-    requires lengths { (length passes.now ≡ tail numbers.now) × ((length share.old ≡ alpha numbers.now) × ((length points.now ≡ alpha numbers.now + alpha numbers.now) × (length line.old ≡ alpha numbers.now + alpha numbers.now))) }
-    requires same { Same (alpha numbers.now + alpha numbers.now) (entry F.Field.ops points.now) (chosen_point F.Field.ops numbers.now (listed helpers.now)) }
-    ensures { result ≡ second_over F.Field.ops numbers.now j (listed helpers.now) (entry F.Field.ops passes.now) (entry F.Field.ops weights.now) c }
-{
-    if c < numbers.helpers() {
-        second_share::<F>(numbers, helpers, points, passes, weights, j, c, share, line)
-    } else {
-        coefficient::<F>(weights, c - numbers.helpers())
+impl<F: Field> Helped<'_, F> {
+    // Coefficient k of factor · (lower half of line + μ of the box · upper half of line).
+    fn joined_halves(&self, factor: F::Elem, line: &[F::Elem], k: usize) -> F::Elem
+        requires { k < alpha self.now.numbers.now }
+        ensures { result ≡ F.Field.ops.mul factor (F.Field.ops.add (entry F.Field.ops line.now k)
+            (F.Field.ops.mul (mu F.Field.ops self.now.numbers.now (node self.now.numbers.now self.now.at)) (entry F.Field.ops line.now (alpha self.now.numbers.now + k)))) }
+    {
+        let lower = coefficient::<F>(line, k);
+        let upper = coefficient::<F>(line, self.numbers.alpha() + k);
+        F::mul(factor, F::add(lower, F::mul(self.own_mu, upper)))
     }
-}
 
-// Fills the plan for a row of the second part, by the points and the weights of the passes.
-fn fill_settle_second<F: Field>(
-    numbers: &Numbers,
-    helpers: &[u16],
-    points: &[F::Elem],
-    passes: &[F::Elem],
-    weights: &[F::Elem],
-    j: u16,
-    plan: &mut [F::Elem],
-    share: &mut [F::Elem],
-    line: &mut [F::Elem],
-)
-    requires lengths { (numbers.now.d + tail numbers.now ≤ length plan.old) × ((length passes.now ≡ tail numbers.now) × ((length share.old ≡ alpha numbers.now) × ((length points.now ≡ alpha numbers.now + alpha numbers.now) × (length line.old ≡ alpha numbers.now + alpha numbers.now)))) }
-    requires same { Same (alpha numbers.now + alpha numbers.now) (entry F.Field.ops points.now) (chosen_point F.Field.ops numbers.now (listed helpers.now)) }
-    ensures { Planned F.Field.ops (numbers.now.d + tail numbers.now) (second_over F.Field.ops numbers.now j (listed helpers.now) (entry F.Field.ops passes.now) (entry F.Field.ops weights.now)) plan.old plan.new }
-{
-    let count = numbers.helpers() + numbers.tail();
-    for c in 0..count {
-        plan[c] = settle_second_cell::<F>(
-            numbers, helpers, points, passes, weights, j, c, share, line,
-        );
+    // Fills the plan for a row of the first part: a pass gives nothing to it. What room holds is lost, of which it takes 2α
+    // elements.
+    fn fill_first(&self, row: usize, plan: &mut [F::Elem], room: &mut [F::Elem])
+        requires row { row < alpha self.now.numbers.now }
+        requires room { 16 ≤ length room.old }
+        ensures { Same (length plan.old) (entry F.Field.ops plan.new) (settle_first F.Field.ops self.now.numbers.now self.now.at (listed self.now.helpers.now) row) }
+    {
+        let (line, _) = room.split_at_mut(2 * self.numbers.alpha());
+        for (c, cell) in plan.iter_mut().enumerate() {
+            *cell = if c < self.numbers.helpers() {
+                self.fill_polynomial(c, line);
+                self.joined_halves(self.mu_sum(c), line, row)
+            } else {
+                F::zero()
+            };
+        }
     }
-}
 
-// The plan for row q of the second part.
-fn settle_second<F: Field>(
-    numbers: &Numbers,
-    helpers: &[u16],
-    others: &[u16],
-    points: &[F::Elem],
-    j: u16,
-    q: usize,
-    plan: &mut [F::Elem],
-    line: &mut [F::Elem],
-    room: &mut [F::Elem],
-)
-    requires lengths { (numbers.now.d + tail numbers.now ≤ length plan.old) × ((32 ≤ length room.old) × ((length points.now ≡ alpha numbers.now + alpha numbers.now) × (length line.old ≡ alpha numbers.now + alpha numbers.now))) }
-    requires same { Same (alpha numbers.now + alpha numbers.now) (entry F.Field.ops points.now) (chosen_point F.Field.ops numbers.now (listed helpers.now)) }
-    ensures { Planned F.Field.ops (numbers.now.d + tail numbers.now) (settle_second F.Field.ops numbers.now j (listed helpers.now) (listed others.now) q) plan.old plan.new }
-{
-    let t = numbers.tail();
-    let (share, rest) = room.split_at_mut(numbers.alpha());
-    let (passes, rest) = rest.split_at_mut(t);
-    let (weights, rest) = rest.split_at_mut(t);
-    let (short, _) = rest.split_at_mut(t);
-    fill_others::<F>(numbers, others, passes);
-    fill_pass_weights::<F>(passes, q, weights, short);
-    fill_settle_second::<F>(
-        numbers, helpers, points, passes, weights, j, plan, share, line,
-    );
+    // Fills the coefficients of the segment from helper number i in the rows of the first part. What line holds is lost.
+    fn fill_share(&self, i: usize, share: &mut [F::Elem], line: &mut [F::Elem])
+        requires helper { i < self.now.numbers.now.d }
+        requires rows { length share.old ≡ alpha self.now.numbers.now }
+        requires coefficients { length line.old ≡ alpha self.now.numbers.now + alpha self.now.numbers.now }
+        ensures { Same (alpha self.now.numbers.now) (entry F.Field.ops share.new) (helper_share F.Field.ops self.now.numbers.now self.now.at (listed self.now.helpers.now) i) }
+    {
+        self.fill_polynomial(i, line);
+        let factor = self.mu_sum(i);
+        for (k, cell) in share.iter_mut().enumerate() {
+            *cell = self.joined_halves(factor, line, k);
+        }
+    }
+
+    // What a share of the first part is to the passes of the boxes at the points, by the weights of these passes: the sum of
+    // (μ + p^α)⁻¹ · share(p) · weight.
+    fn pass_sum(&self, share: &[F::Elem], points: &[F::Elem], weights: &[F::Elem]) -> F::Elem
+        requires rows { length share.now ≡ alpha self.now.numbers.now }
+        requires weights { length weights.now ≡ length points.now }
+        ensures { result ≡ sum F.Field.ops (length points.now)
+            (λ m. pass_term F.Field.ops self.now.numbers.now self.now.at (entry F.Field.ops share.now) (entry F.Field.ops points.now m) (entry F.Field.ops weights.now m)) }
+    {
+        let mut total = F::zero();
+        for (p, weight) in points.iter().zip(weights) {
+            let power = raised::<F>(*p, self.numbers.alpha());
+            let ratio = inverted::<F>(F::add(self.own_mu, power));
+            let part = F::mul(ratio, value::<F>(share, *p));
+            total = F::add(total, F::mul(part, *weight));
+        }
+        total
+    }
+
+    // Fills the plan for row q of the second part. What room holds is lost, of which it takes 3α + 3(t − 1) elements.
+    fn fill_second(&self, others: &[u16], q: usize, plan: &mut [F::Elem], room: &mut [F::Elem])
+        requires cells { length plan.old ≤ self.now.numbers.now.d + tail self.now.numbers.now }
+        requires room { 33 ≤ length room.old }
+        ensures { Same (length plan.old) (entry F.Field.ops plan.new) (settle_second F.Field.ops self.now.numbers.now self.now.at (listed self.now.helpers.now) (listed others.now) q) }
+    {
+        let alpha = self.numbers.alpha();
+        let d = self.numbers.helpers();
+        let t = self.numbers.tail();
+        let (line, rest) = room.split_at_mut(2 * alpha);
+        let (share, rest) = rest.split_at_mut(alpha);
+        let (points, rest) = rest.split_at_mut(t);
+        let (weights, rest) = rest.split_at_mut(t);
+        let (short, _) = rest.split_at_mut(t);
+        fill_others::<F>(self.numbers, others, points);
+        fill_weights::<F>(points, q, weights, short);
+        for (c, cell) in plan.iter_mut().enumerate() {
+            *cell = if c < d {
+                self.fill_share(c, share, line);
+                self.pass_sum(share, points, weights)
+            } else {
+                coefficient::<F>(weights, c - d)
+            };
+        }
+    }
+
+    // Fills the plan for a row. What room holds is lost.
+    fn fill_row(&self, others: &[u16], row: usize, plan: &mut [F::Elem], room: &mut [F::Elem])
+        requires cells { length plan.old ≤ self.now.numbers.now.d + tail self.now.numbers.now }
+        requires room { 33 ≤ length room.old }
+        ensures { Same (length plan.old) (entry F.Field.ops plan.new) (settle_weight F.Field.ops self.now.numbers.now self.now.at (listed self.now.helpers.now) (listed others.now) row) }
+    {
+        let alpha = self.numbers.alpha();
+        if row < alpha {
+            self.fill_first(row, plan, room);
+        } else {
+            self.fill_second(others, row - alpha, plan, room);
+        }
+    }
 }
 
 // The plan for row `row` of box `at` from the segments that came to it: d coefficients for those that the helpers of the
-// list sent, and t − 1 for those that the other newcomers of their list passed. The answer is whether there was memory for
-// it; if not, the plan is as it was. What room holds is lost.
+// list sent, and t − 1 for those that the other newcomers of their list passed. Where there is no memory for it, it is refused
+// for the length, and the plan is as it was. What room holds is lost.
 pub fn settle_plan<F: Field>(
     numbers: &Numbers,
     at: u16,
@@ -305,31 +158,14 @@ pub fn settle_plan<F: Field>(
     row: usize,
     plan: &mut [F::Elem],
     room: &mut [F::Elem],
-) -> bool
+) -> Result<(), Denial>
     ensures { Made F.Field.ops (FitsPlan (numbers.now.d + tail numbers.now) plan.old room.old) (numbers.now.d + tail numbers.now)
         (settle_weight F.Field.ops numbers.now at (listed helpers.now) (listed others.now) row) plan.old plan.new result }
 {
-    if !fits_plan(numbers.helpers() + numbers.tail(), plan.len(), room.len()) {
-        return false;
-    }
-    let alpha = numbers.alpha();
-    let (points, rest) = room.split_at_mut(2 * alpha);
-    let (line, rest) = rest.split_at_mut(2 * alpha);
-    fill_points::<F>(numbers, helpers, points);
-    if row < alpha {
-        fill_settle_first::<F>(numbers, helpers, points, at, row, plan, line);
-    } else {
-        settle_second::<F>(
-            numbers,
-            helpers,
-            others,
-            points,
-            at,
-            row - alpha,
-            plan,
-            line,
-            rest,
-        );
-    }
-    true
+    let count = numbers.helpers() + numbers.tail();
+    fits_plan(count, plan.len(), room.len())?;
+    let (points, rest) = room.split_at_mut(2 * numbers.alpha());
+    let helped = Helped::<F>::new(numbers, at, helpers, points);
+    helped.fill_row(others, row, &mut plan[..count], rest);
+    Ok(())
 }

@@ -1,29 +1,27 @@
-use Rattle.std.proofs.Common.{◌≡◌, ◌+◌, ◌*◌, ◌<◌, length, sym, ap, ◌∙◌, ap₂, arith}
+use Rattle.std.proofs.Common.{◌≡◌, ℕ, ◌+◌, ◌*◌, ◌-◌, ◌<◌, length, take, drop, sym, ap, ◌∙◌, ap₂, length-append, get_or-take, get_or-drop, rules, arith}
+use Rattle.std.proofs.lemmas.Slice.Zip.{zip_turn}
 use Rattle.algebra.specs.Poly.{sum, power}
 use Rattle.algebra.specs.Cells.{entry}
 use Rattle.algebra.proofs.Sum.{sum_none}
-use Rattle.algebra.proofs.Products.{read_entry}
 use Rattle.coder.proofs.Formulas.{sum_turn}
 use Rattle.blocks.proofs.pairs.weight_sum.Goals as goal
 
-pub loop-j-init : goal.loop-j-init
-loop-j-init g c = c.zero-total.ensures ∙ sym (sum_none g.F.Field.ops _)
+pub loop-p-init : goal.loop-p-init
+loop-p-init g c = c.zero-total.ensures ∙ sym (sum_none g.F.Field.ops _)
 
-pub loop-j-preserved : goal.loop-j-preserved
-loop-j-preserved g c =
+pub loop-p-preserved : goal.loop-p-preserved
+loop-p-preserved g c =
     let F = g.F.Field.ops in
     let ps = c.args.points.now in
     let ws = c.args.pairs.now in
-    let j = c.loop-j.j in
-    let at = c.args.i * length ps + j in
-    let lj : j < length ps = omega arith in
-    let la : at < length ws = omega arith in
-    sum_turn F (λ j. F.mul (entry F ws (c.args.i * length ps + j)) (power F (entry F ps j) c.args.l)) j c.loop-j.total c.mul.result c.add-total.result c.loop-j.invariant
-    (c.mul.ensures ∙ ap₂ F.mul (read_entry F ws at c.index-pairs-start.result la c.index-pairs-start.is)
-    (c.raised.ensures ∙ ap (λ x. power F x c.args.l) (read_entry F ps j c.index-points-j.result lj c.index-points-j.is)))
-    c.add-total.ensures
-
-pub returns : goal.returns
-returns g c =
-    let e : c.loop-j.j ≡ length c.args.points.now = omega arith in
-    c.loop-j.invariant ∙ ap (λ n. sum g.F.Field.ops n (λ j. g.F.Field.ops.mul (entry g.F.Field.ops c.args.pairs.now (c.args.i * length c.args.points.now + j)) (power g.F.Field.ops (entry g.F.Field.ops c.args.points.now j) c.args.l))) e
+    let start = c.args.i * length ps in
+    let n = start + length ps - start in
+    let j = length c.loop-p.yielded in
+    let f = λ (j : ℕ). F.mul (entry F ws (start + j)) (power F (entry F ps j) c.args.l) in
+    let turn = zip_turn ps (take n (drop start ws)) c.loop-p.yielded c.into_iter-p-iterator.result c.loop-p.p-iterator c.next.new.self c.next.result (search rules) (search rules)
+    c.loop-p.yielded_by (c.in-Some.p, c.in-Some.w) c.in-Some.is c.next.ensures.steps in
+    let inside : j < n = omega (arith, turn.0) in
+    let weight : c.in-Some.w.now ≡ entry F ws (start + j) = turn.3 F.zero ∙ get_or-take n (drop start ws) j F.zero inside ∙ get_or-drop start ws j F.zero in
+    let height : c.raised.result ≡ power F (entry F ps j) c.args.l = c.raised.ensures ∙ ap (λ x. power F x c.args.l) (turn.2 F.zero) in
+    sum_turn F f j c.loop-p.total c.mul.result c.add-total.result c.loop-p.invariant (c.mul.ensures ∙ ap₂ F.mul weight height) c.add-total.ensures ∙
+    ap (λ n. sum F n f) (sym (length-append c.loop-p.yielded _))

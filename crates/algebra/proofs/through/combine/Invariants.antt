@@ -1,7 +1,0 @@
-use Rattle.std.proofs.Common.{length}
-use Rattle.algebra.specs.Cells.{entry}
-use Rattle.algebra.proofs.Combining.{Partial}
-use Rattle.algebra.proofs.through.combine.Given as goal
-
-abbrev pub invariant-loop-i : goal.invariant-loop-i
-invariant-loop-i g l = Partial g.F.Field.ops (length l.points) (entry g.F.Field.ops l.points) (entry g.F.Field.ops l.values) (entry g.F.Field.ops l.f) l.i

@@ -1,7 +1,0 @@
-use Rattle.std.proofs.Common.{◌≡◌, length}
-use Rattle.algebra.specs.Cells.{entry}
-use Rattle.algebra.proofs.Combining.{blend}
-use Rattle.algebra.proofs.through.combined_value.Given as goal
-
-abbrev pub invariant-loop-i : goal.invariant-loop-i
-invariant-loop-i g l = l.sum ≡ blend g.met.F.Field.laws (length l.points) (entry g.F.Field.ops l.points) (entry g.F.Field.ops l.values) l.x l.i

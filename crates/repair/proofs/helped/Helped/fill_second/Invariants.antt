@@ -1,0 +1,9 @@
+use Rattle.algebra.specs.Poly.{Same}
+use Rattle.algebra.specs.Cells.{entry}
+use Rattle.coder.specs.Points.{listed}
+use Rattle.repair.specs.Repair.{second_over}
+use Rattle.repair.proofs.helped.Helped.fill_second.Given as goal
+
+abbrev pub invariant-loop-c : goal.invariant-loop-c
+invariant-loop-c g l = Same l.c (entry g.F.Field.ops l.plan)
+    (second_over g.F.Field.ops l.self.numbers.now l.self.at (listed l.self.helpers.now) (entry g.F.Field.ops l.points) (entry g.F.Field.ops l.weights))
