@@ -62,21 +62,26 @@ impl Denial {
         }
     }
 
-    // The box that is named, or 0 where none is.
+    // The box that is named, or 0 where none is: both are the numbers that callers are told.
     pub fn at(self) -> u16
         ensures { result ≡ box_named self }
     {
         match self {
-            Denial::Range { at } => at,
-            Denial::Repeated { at } => at,
-            Denial::Dead { at } => at,
-            Denial::State { at } => at,
-            Denial::Repair { at } => at,
-            Denial::Part { at } => at,
-            Denial::Already { at } => at,
-            Denial::Missing { at } => at,
-            Denial::Limit | Denial::Helpers | Denial::Points | Denial::OtherShelf => 0,
-            Denial::Length | Denial::Symbol | Denial::Unreadable => 0,
+            Denial::Range { at }
+            | Denial::Repeated { at }
+            | Denial::Dead { at }
+            | Denial::State { at }
+            | Denial::Repair { at }
+            | Denial::Part { at }
+            | Denial::Already { at }
+            | Denial::Missing { at } => at,
+            Denial::Limit
+            | Denial::Helpers
+            | Denial::Points
+            | Denial::OtherShelf
+            | Denial::Length
+            | Denial::Symbol
+            | Denial::Unreadable => 0,
         }
     }
 }

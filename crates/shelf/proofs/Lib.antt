@@ -6,6 +6,7 @@ pub mod Holds
 pub mod Index
 pub mod Ordering
 pub mod Packing
+pub mod Shown
 pub mod Steps
 pub mod Tabs
 pub mod Numbers

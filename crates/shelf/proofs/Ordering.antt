@@ -1,6 +1,7 @@
 -- The tests of the checks, and what they mean.
-use Rattle.std.proofs.Common.{◌≡◌, ℕ, suc, ◌-◌, ◌*◌, ◌^◌, ◌<◌, Bool, true, false, eqb, ltb, leb, List, [], ◌∷◌, length, get_or, Result, refl, ap, ◌∙◌, inl, inr, arith}
+use Rattle.std.proofs.Common.{◌≡◌, ℕ, ◌-◌, ◌*◌, ◌^◌, ◌<◌, Bool, true, false, eqb, ltb, leb, List, length, get_or, Result, refl, ap, ◌∙◌, inl, inr}
 use Rattle.std.proofs.lemmas.Bool.{cases_Bool, and_from, and_parts, lt-ltb, le-leb, lt-leb, eq-eqb, eqb-true}
+use Rattle.std.proofs.lemmas.List.Recursion.{and_from_places}
 use Rattle.refusal.specs.declared.denial.Denial.{Denial}
 use Rattle.refusal.specs.declared.denial.Denial.TheVariants.{Limit, Length, Range, Symbol, Dead}
 use Rattle.refusal.specs.Checks.{check, and_then}
@@ -32,8 +33,7 @@ itself : (t : Bool) → Means t (t ≡ true)
 itself t = record { means = λ e. e; since = λ p. p }
 
 all_codes : (n : ℕ) (vs : List ℕ) → ((j : ℕ) → j < length vs → get_or vs j 0 < n) → all_below n vs ≡ true
-all_codes n [] h = refl
-all_codes n (x ∷ xs) h = and_from (ltb x n) (all_below n xs) (lt-ltb x n (h 0 (omega arith))) (all_codes n xs (λ j l. h (suc j) (omega arith)))
+all_codes n vs h = and_from_places (all_below n) (λ x. ltb x n) refl (λ x ys. refl) vs 0 (λ i l. lt-ltb (get_or vs i 0) n (h i l))
 
 codes : (n : ℕ) (vs : List ℕ) → Means (all_below n vs) ((j : ℕ) → j < length vs → get_or vs j 0 < n)
 codes n vs = record { means = λ e j l. below_at n vs j e l; since = all_codes n vs }

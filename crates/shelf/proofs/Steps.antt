@@ -74,9 +74,9 @@ module _ (live : List Bool) (held : ℕ → ℕ) (s : Shape) where
   renew_does new b e l w = let h = within_index b s.boxes e in renew_is live held s new (b - 1) h (omega arith) w
 
 -- The places of a box are places of the shelf.
-pub box_in : (s : Shape) (b : ℕ) → within b s.boxes ≡ true → (b - 1) * (s.rows * s.width) + s.rows * s.width ≤ size s
-box_in s b h =
-    let q = line_before (b - 1) s.boxes (s.rows * s.width) (within_index b s.boxes h) in
+pub box_in : (s : Shape) (i : ℕ) → i < s.boxes → i * (s.rows * s.width) + s.rows * s.width ≤ size s
+box_in s i h =
+    let q = line_before i s.boxes (s.rows * s.width) h in
     omega (arith, mul_assoc s.boxes s.rows s.width)
 
 pub all_true : (i : ℕ) → i < max_boxes → get_or (replicate max_boxes true) i false ≡ true

@@ -1,5 +1,5 @@
 -- Lists that are made from a function of the index.
-use Rattle.std.proofs.Common.{◌≡◌, ℕ, zero, suc, ◌<◌, List, [], ◌∷◌, length, get_or, set, replicate, refl, ap, arith}
+use Rattle.std.proofs.Common.{◌≡◌, ℕ, zero, suc, ◌+◌, ◌<◌, List, [], ◌∷◌, length, get_or, set, replicate, refl, ap, ◌∙◌, arith, get_or-set_other, get_or-set_same, below_more}
 use Rattle.shelf.specs.Stored.{tab}
 
 pub tab_length : {A : Type 0} (n : ℕ) (f : ℕ → A) → length (tab n f) ≡ n
@@ -40,3 +40,10 @@ tab_all (x ∷ xs) zero f e h = absurd (omega arith)
 tab_all (x ∷ xs) (suc n) f e h =
     let t = tab_all xs n (λ k. f (suc k)) (omega arith) (λ k l. h (suc k) (omega arith)) in
     let z : x ≡ f 0 = h 0 (omega arith) in cc
+
+-- One more place of such a list.
+pub tab_more : (xs : List ℕ) (j x : ℕ) (f : ℕ → ℕ) → ((k : ℕ) → k < j → get_or xs k 0 ≡ f k) → j < length xs → x ≡ f j
+    → (k : ℕ) → k < j + 1 → get_or (set xs j x) k 0 ≡ f k
+tab_more xs j x f h l e = below_more _ _
+    (λ k i. get_or-set_other xs j k x 0 (λ q. omega arith) ∙ h k i)
+    (get_or-set_same xs j x 0 l ∙ e)

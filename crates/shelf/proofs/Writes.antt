@@ -1,5 +1,5 @@
 -- Places written one after another.
-use Rattle.std.proofs.Common.{◌≡◌, ℕ, ◌+◌, ◌<◌, List, length, get_or, set, sym, ap, ◌∙◌, inl, inr, arith, get_or-set_other, get_or-set_same}
+use Rattle.std.proofs.Common.{◌≡◌, ℕ, ◌+◌, sym, ap, ◌∙◌, inl, inr, arith}
 use Rattle.std.proofs.lemmas.Bool.{cases_lt}
 use Rattle.shelf.specs.Stored.{Written}
 
@@ -14,9 +14,3 @@ written_more old new newer start n v w e o = record {
   below = λ p h. o p (λ q. omega arith) ∙ w.below p h;
   above = λ p h. o p (λ q. omega arith) ∙ w.above p (omega arith);
 }
-
--- One more cell of a list.
-pub written_set : (old now : List ℕ) (start n x : ℕ) (v : ℕ → ℕ) → Written (λ p. get_or old p 0) (λ p. get_or now p 0) start n v
-    → start + n < length now → x ≡ v n → Written (λ p. get_or old p 0) (λ p. get_or (set now (start + n) x) p 0) start (n + 1) v
-written_set old now start n x v w h e = written_more (λ p. get_or old p 0) (λ p. get_or now p 0) (λ p. get_or (set now (start + n) x) p 0) start n v w
-    (get_or-set_same now (start + n) x 0 h ∙ e) (λ q o. get_or-set_other now (start + n) q x 0 o)

@@ -21,6 +21,9 @@ within i n = nat_lt 0 i && nat_le i n
 abbrev pub in_limits : (boxes rows width bits : ℕ) → Bool
 in_limits boxes rows width bits = within boxes max_boxes && (within rows max_rows && (within width max_width && within bits max_bits))
 
+abbrev pub BitsInLimits : ℕ → Type 0
+BitsInLimits bits = (1 ≤ bits) × (bits ≤ max_bits)
+
 -- The numbers of any shelf, which may have no boxes yet.
 abbrev pub Limits : (boxes rows width bits : ℕ) → Type 0
-Limits boxes rows width bits = (boxes ≤ max_boxes) × ((1 ≤ rows) × (rows ≤ max_rows)) × ((1 ≤ width) × (width ≤ max_width)) × ((1 ≤ bits) × (bits ≤ max_bits))
+Limits boxes rows width bits = (boxes ≤ max_boxes) × ((1 ≤ rows) × (rows ≤ max_rows)) × ((1 ≤ width) × (width ≤ max_width)) × BitsInLimits bits

@@ -44,6 +44,14 @@ told s room = cond (in_limits s.boxes s.rows s.width s.bits && nat_le (size s) r
 abbrev pub model_by : List Bool → (symbol : ℕ → ℕ → ℕ) → (room : ℕ → ℕ) → Shape → Model
 model_by live symbol room s = let t = told s (room s.bits) in model_of live (symbol t.bits) t
 
+-- The most places that a shelf can have.
+abbrev pub max_size : ℕ
+max_size = 2 ^ 18
+
+-- The n places at `start` are places of a shelf, and in the memory, which has room for `room` symbols.
+abbrev pub InRoom : (start n room : ℕ) → Type 0
+InRoom start n room = (start + n ≤ max_size) × (start + n ≤ room)
+
 -- From `old` to `new`, just the n places at `start` changed, to v 0, v 1 ..
 pub record Written (old new : ℕ → ℕ) (start n : ℕ) (v : ℕ → ℕ) : Type 0 where
   pub inside : (j : ℕ) → j < n → new (start + j) ≡ v j

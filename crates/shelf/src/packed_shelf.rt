@@ -4,7 +4,6 @@ ghost use Rattle.shelf.specs.Lay.{unlaid};
 ghost use Rattle.shelf.specs.PackedShelves.{packed_model};
 
 use crate::packed::Packed;
-use crate::shape::{MAX_BOXES, Shape};
 use crate::store::Store;
 
 pub type PackedShelf<'a> = Store<Packed<'a>>;
@@ -15,10 +14,6 @@ impl<'a> Store<Packed<'a>> {
         ensures value { packed_model result ≡ unlaid }
         ensures same { result.memory.bytes.now ≡ bytes.old }
     {
-        Store {
-            memory: Packed { bytes },
-            shape: Shape::NONE,
-            live: [false; MAX_BOXES],
-        }
+        Store::unlaid(Packed { bytes })
     }
 }

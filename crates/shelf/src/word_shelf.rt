@@ -3,7 +3,6 @@ ghost use Rattle.std.specs.Prelude.{◌≡◌};
 ghost use Rattle.shelf.specs.Lay.{unlaid};
 ghost use Rattle.shelf.specs.WordShelves.{word_model};
 
-use crate::shape::{MAX_BOXES, Shape};
 use crate::store::Store;
 use crate::words::Words;
 
@@ -15,10 +14,6 @@ impl<'a> Store<Words<'a>> {
         ensures value { word_model result ≡ unlaid }
         ensures same { result.memory.cells.now ≡ cells.old }
     {
-        Store {
-            memory: Words { cells },
-            shape: Shape::NONE,
-            live: [false; MAX_BOXES],
-        }
+        Store::unlaid(Words { cells })
     }
 }

@@ -2,6 +2,7 @@
 ghost use Rattle.std.specs.Prelude.{ℕ, length, slice_index};
 
 use crate::memory::Memory;
+use crate::shape::SymbolBits;
 
 #[derive(Drop)]
 pub struct Words<'a> {
@@ -13,26 +14,24 @@ impl Memory for Words<'_> {
 
     ghost symbol = { λ s m p. slice_index s.cells.now p };
 
-    fn holds(&self, _m: u32, n: usize) -> bool {
+    fn holds(&self, _m: SymbolBits, n: usize) -> bool {
         n <= self.cells.len()
     }
 
-    fn read(&self, m: u32, start: usize, out: &mut [u16]) {
-        let mask = ((1u32 << m) - 1) as u16;
-        for j in 0..out.len() {
-            out[j] = self.cells[start + j] & mask;
+    fn read(&self, m: SymbolBits, start: usize, out: &mut [u16]) {
+        let mask = (m.codes() - 1) as u16;
+        let row = &self.cells[start..start + out.len()];
+        // By number: after `out.iter_mut().zip(row)` nothing is known of out.
+        for (j, x) in out.iter_mut().enumerate() {
+            *x = row[j] & mask;
         }
     }
 
-    fn write(&mut self, _m: u32, start: usize, cells: &[u16]) {
-        for j in 0..cells.len() {
-            self.cells[start + j] = cells[j];
-        }
+    fn write(&mut self, _m: SymbolBits, start: usize, cells: &[u16]) {
+        self.cells[start..start + cells.len()].copy_from_slice(cells);
     }
 
-    fn wipe(&mut self, _m: u32, start: usize, n: usize) {
-        for j in 0..n {
-            self.cells[start + j] = 0;
-        }
+    fn wipe(&mut self, _m: SymbolBits, start: usize, n: usize) {
+        self.cells[start..start + n].fill(0);
     }
 }

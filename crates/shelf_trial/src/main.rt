@@ -12,11 +12,10 @@ const ROWS: usize = 2;
 
 const WIDTH: usize = 5;
 
-// Boxes times rows times symbols a row.
-const SYMBOLS: usize = 30;
+const SYMBOLS: usize = BOXES * ROWS * WIDTH;
 
 // The bytes of all symbols at 16 bits, and one behind them.
-const BYTES: usize = 61;
+const BYTES: usize = 2 * SYMBOLS + 1;
 
 // Calls for each number of bits, besides the one that lays out.
 const CALLS: u32 = 600;
@@ -25,6 +24,7 @@ const CALLS: u32 = 600;
 const BEHIND: u8 = 0xa5;
 
 // A linear congruential generator, of which the upper half is used.
+#[derive(Drop)]
 struct Random {
     state: u32,
 }
@@ -40,7 +40,7 @@ impl Random {
 }
 
 // How many calls were accepted and how many denied, and at how many the shelves differed.
-#[derive(Clone, Copy)]
+#[derive(Clone, Copy, Default)]
 struct Count {
     accepted: u32,
     denied: u32,
@@ -84,81 +84,72 @@ fn fill(random: &mut Random, bits: u32, cells: &mut [u16]) {
     }
 }
 
-// Takes a row from both shelves, now and then into too few cells.
-fn taken<A: Shelf, B: Shelf>(random: &mut Random, a: &A, b: &B, count: &mut Count) {
-    let mut one = [7u16; WIDTH];
-    let mut two = [7u16; WIDTH];
-    let at = some_number(random, BOXES as u32);
-    let row = some_number(random, ROWS as u32);
-    if random.below(20) > 0 {
-        let x = a.take(at, row, &mut one);
-        let y = b.take(at, row, &mut two);
-        count.note(x, y, one == two);
-    } else {
-        let x = a.take(at, row, &mut one[1..]);
-        let y = b.take(at, row, &mut two[1..]);
-        count.note(x, y, one == two);
+// Two shelves that get the same calls, and what came of these.
+#[derive(Drop)]
+struct Trial<A, B> {
+    a: A,
+    b: B,
+    random: Random,
+    count: Count,
+}
+
+impl<A: Shelf, B: Shelf> Trial<A, B> {
+    // Takes a row from both shelves, now and then into too few cells.
+    fn take(&mut self) {
+        let mut one = [7u16; WIDTH];
+        let mut two = [7u16; WIDTH];
+        let at = some_number(&mut self.random, BOXES as u32);
+        let row = some_number(&mut self.random, ROWS as u32);
+        let from = if self.random.below(20) > 0 { 0 } else { 1 };
+        let x = self.a.take(at, row, &mut one[from..]);
+        let y = self.b.take(at, row, &mut two[from..]);
+        self.count.note(x, y, one == two);
     }
-}
 
-// Puts a row into both shelves, now and then of too few cells.
-fn put<A: Shelf, B: Shelf>(random: &mut Random, a: &mut A, b: &mut B, count: &mut Count) {
-    let mut cells = [0u16; WIDTH];
-    let at = some_number(random, BOXES as u32);
-    let row = some_number(random, ROWS as u32);
-    let bits = a.bits();
-    fill(random, bits, &mut cells);
-    let used = if random.below(20) > 0 {
-        WIDTH
-    } else {
-        WIDTH - 1
-    };
-    let x = a.put(at, row, &cells[..used]);
-    let y = b.put(at, row, &cells[..used]);
-    count.note(x, y, true);
-}
-
-// Kills or renews a box of both shelves, and asks whether it stands.
-fn mark<A: Shelf, B: Shelf>(random: &mut Random, a: &mut A, b: &mut B, count: &mut Count) {
-    let at = some_number(random, BOXES as u32);
-    if random.below(3) == 0 {
-        let x = a.kill(at);
-        let y = b.kill(at);
-        count.note(x, y, a.stands(at) == b.stands(at));
-    } else {
-        let x = a.renew(at);
-        let y = b.renew(at);
-        count.note(x, y, a.stands(at) == b.stands(at));
+    // Puts a row into both shelves, now and then of too few cells.
+    fn put(&mut self) {
+        let mut cells = [0u16; WIDTH];
+        let at = some_number(&mut self.random, BOXES as u32);
+        let row = some_number(&mut self.random, ROWS as u32);
+        let bits = self.a.bits();
+        fill(&mut self.random, bits, &mut cells);
+        let used = if self.random.below(20) > 0 {
+            WIDTH
+        } else {
+            WIDTH - 1
+        };
+        let x = self.a.put(at, row, &cells[..used]);
+        let y = self.b.put(at, row, &cells[..used]);
+        self.count.note(x, y, true);
     }
-}
 
-// The list of calls depends on the number of bits alone.
-fn drive<A: Shelf, B: Shelf>(a: &mut A, b: &mut B) -> Count {
-    let mut random = Random { state: a.bits() };
-    let mut count = Count {
-        accepted: 0,
-        denied: 0,
-        differences: 0,
-    };
-    for _ in 0..CALLS {
-        match random.below(20) {
-            0..=1 => mark(&mut random, a, b, &mut count),
-            2..=10 => put(&mut random, a, b, &mut count),
-            _ => taken(&mut random, a, b, &mut count),
+    // Kills or renews a box of both shelves, and asks whether it stands.
+    fn mark(&mut self) {
+        let at = some_number(&mut self.random, BOXES as u32);
+        let (x, y) = if self.random.below(3) == 0 {
+            (self.a.kill(at), self.b.kill(at))
+        } else {
+            (self.a.renew(at), self.b.renew(at))
+        };
+        self.count
+            .note(x, y, self.a.stands(at) == self.b.stands(at));
+    }
+
+    // The list of calls depends on the number of bits alone.
+    fn drive(&mut self) {
+        for _ in 0..CALLS {
+            match self.random.below(20) {
+                0..=1 => self.mark(),
+                2..=10 => self.put(),
+                _ => self.take(),
+            }
         }
     }
-    let Random { state: _ } = random;
-    count
 }
 
-// 1 where a byte behind the shelf's memory changed.
-fn behind(bytes: &[u8], used: usize) -> u32 {
-    for i in used..bytes.len() {
-        if bytes[i] != BEHIND {
-            return 1;
-        }
-    }
-    0
+// Whether the bytes behind the shelf's memory are as they were.
+fn kept_behind(bytes: &[u8]) -> bool {
+    bytes.iter().all(|b| *b == BEHIND)
 }
 
 fn lay_and_drive(cells: &mut [u16], bytes: &mut [u8], bits: u32) -> Count {
@@ -166,35 +157,44 @@ fn lay_and_drive(cells: &mut [u16], bytes: &mut [u8], bits: u32) -> Count {
     let mut b = PackedShelf::over(bytes);
     let x = a.lay(BOXES, ROWS, WIDTH, bits);
     let y = b.lay(BOXES, ROWS, WIDTH, bits);
-    let mut count = drive(&mut a, &mut b);
-    count.note(x, y, x.is_ok());
-    count
+    let random = Random { state: a.bits() };
+    let mut trial = Trial {
+        a,
+        b,
+        random,
+        count: Count::default(),
+    };
+    trial.drive();
+    trial.count.note(x, y, x.is_ok());
+    trial.count
 }
 
 // The packed shelf has just the bytes that it needs; those behind them are looked at in the end.
 fn drive_in_bytes(cells: &mut [u16], bytes: &mut [u8], used: usize, bits: u32) -> Count
     requires { used ≤ length bytes.old }
 {
-    let mut count = lay_and_drive(cells, &mut bytes[0..used], bits);
-    count.differences = count.differences.wrapping_add(behind(bytes, used));
+    let mut count = lay_and_drive(cells, &mut bytes[..used], bits);
+    if !kept_behind(&bytes[used..]) {
+        count.differences = count.differences.wrapping_add(1);
+    }
     count
 }
 
 fn compare(bits: u32) -> Count
-    requires { bits < 17 }
+    requires { bits ≤ 16 }
 {
     let mut cells = [9u16; SYMBOLS];
     let mut bytes = [BEHIND; BYTES];
     drive_in_bytes(
         &mut cells,
         &mut bytes,
-        (SYMBOLS * bits as usize + 7) / 8,
+        (SYMBOLS * bits as usize).div_ceil(8),
         bits,
     )
 }
 
 fn main(rt: HostRuntime) -> Result<(), std::io::Error> {
-    for bits in 1..17 {
+    for bits in 1..=16 {
         let count = compare(bits);
         println!(rt;
             "m = {bits}: {} accepted, {} denied, {} differences",

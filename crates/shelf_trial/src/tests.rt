@@ -19,8 +19,8 @@ fn word_layout(rt: HostRuntime) {
         assert_eq!(rt; moved(&mut s, &mut out), Ok(()));
         assert_eq!(rt; s.put(1, 1, &[4096, 0]), Err(Denial::Symbol));
     }
-    assert!(rt; out[0] == 0xabc && out[1] == 0x123);
-    assert!(rt; cells[0] == 0xfff && cells[1] == 1 && cells[2] == 0xabc && cells[3] == 0x123);
+    assert!(rt; out == [0xabc, 0x123]);
+    assert!(rt; cells == [0xfff, 1, 0xabc, 0x123]);
 }
 
 // The worked example of docs/SHELVES.md, with one byte behind it.
@@ -33,9 +33,8 @@ fn packed_layout(rt: HostRuntime) {
         assert_eq!(rt; s.lay(2, 1, 2, 12), Ok(()));
         assert_eq!(rt; moved(&mut s, &mut out), Ok(()));
     }
-    assert!(rt; out[0] == 0xabc && out[1] == 0x123);
-    assert!(rt; bytes[0] == 0xff && bytes[1] == 0xf0 && bytes[2] == 0x01);
-    assert!(rt; bytes[3] == 0xab && bytes[4] == 0xc1 && bytes[5] == 0x23 && bytes[6] == 0x5a);
+    assert!(rt; out == [0xabc, 0x123]);
+    assert!(rt; bytes == [0xff, 0xf0, 0x01, 0xab, 0xc1, 0x23, 0x5a]);
 }
 
 // Three symbols of 12 bits need five bytes, four need six.
@@ -49,4 +48,34 @@ fn laying_out(rt: HostRuntime) {
     assert!(rt; s.boxes() == 0);
     assert_eq!(rt; s.lay(1, 1, 3, 12), Ok(()));
     assert!(rt; s.boxes() == 1);
+}
+
+// A user's struct over a shelf of any kind.
+#[derive(Drop)]
+struct Holder<S> {
+    shelf: S,
+    calls: u32,
+}
+
+impl<S: Shelf> Holder<S> {
+    fn lose(&mut self, b: u16) -> Result<(), Denial> {
+        self.calls = self.calls.wrapping_add(1);
+        self.shelf.kill(b)
+    }
+}
+
+// Shelves can be held in structs of users: what a shelf stores has no ghost field.
+#[test]
+fn held_in_a_struct(rt: HostRuntime) {
+    let mut cells = [0u16; 4];
+    let mut out = [0u16; 2];
+    let mut shelf = WordShelf::over(&mut cells);
+    assert_eq!(rt; shelf.lay(2, 1, 2, 8), Ok(()));
+    let mut holder = Holder { shelf, calls: 0 };
+    assert_eq!(rt; holder.lose(1), Ok(()));
+    assert_eq!(rt;
+        holder.shelf.take(1, 1, &mut out),
+        Err(Denial::Dead { at: 1 })
+    );
+    assert!(rt; holder.calls == 1);
 }

@@ -21,7 +21,7 @@ code_is m r w v h k l s = ap (λ t. (w - t) + new_part r v) (old_part_is m r w h
 
 pub overflow_sub-w : goal.overflow_sub-w
 overflow_sub-w c =
-    let m = c.args.m in
+    let m = c.args.m.count in
     let r = (24 - c.args.s % 8) - m in
     let w = c.window-w.result in
     let e = old_part_is m r w (omega arith) (omega arith) in
@@ -35,22 +35,22 @@ written xs m s v w h l k e = code_is m ((24 - s % 8) - m) w v h (omega arith) l 
 
 pub overflow_add-w : goal.overflow_add-w
 overflow_add-w c =
-    let l = put_below c.args.bytes.now c.args.m c.args.s c.args.v (omega arith) (omega arith) (omega arith) (omega arith) in
-    let e = written c.args.bytes.now c.args.m c.args.s c.args.v c.window-w.result (omega arith) (omega arith) (omega arith) c.window-w.ensures.value in
+    let l = put_below c.args.bytes.now c.args.m.count c.args.s c.from.result (omega arith) (omega arith) (omega arith) (omega arith) in
+    let e = written c.args.bytes.now c.args.m.count c.args.s c.from.result c.window-w.result (omega arith) (omega arith) (omega arith) c.window-w.ensures.value in
     omega arith
 
 pub set_window-requires : goal.set_window-requires
 set_window-requires c =
-    let l = put_below c.args.bytes.now c.args.m c.args.s c.args.v (omega arith) (omega arith) (omega arith) (omega arith) in
-    let e = written c.args.bytes.now c.args.m c.args.s c.args.v c.window-w.result (omega arith) (omega arith) (omega arith) c.window-w.ensures.value in
+    let l = put_below c.args.bytes.now c.args.m.count c.args.s c.from.result (omega arith) (omega arith) (omega arith) (omega arith) in
+    let e = written c.args.bytes.now c.args.m.count c.args.s c.from.result c.window-w.result (omega arith) (omega arith) (omega arith) c.window-w.ensures.value in
     (omega arith, omega arith)
 
 pub returns : goal.returns
 returns c =
     let xs = c.args.bytes.now in
-    let m = c.args.m in
+    let m = c.args.m.count in
     let s = c.args.s in
-    let v = c.args.v in
+    let v = c.from.result in
     let e = written xs m s v c.window-w.result (omega arith) (omega arith) (omega arith) c.window-w.ensures.value in
     let f = c.set_window.ensures ∙ ap (with_window xs (s / 8)) e in
     let h : m ≤ 16 = omega arith in
@@ -58,7 +58,7 @@ returns c =
     let j : 1 ≤ m = omega arith in
     let k : v < 2 ^ m = omega arith in
     record {
-      here = ap (λ ys. gather (bit_at ys) s m) f ∙ put_here xs m s v h i j k;
+      here = ap (λ ys. gather (bit_at ys) s m) f ∙ put_here xs m s v h i j k ∙ c.from.ensures;
       below = λ q l. ap (λ ys. bit_at ys q) f ∙ put_before xs m s v h i j k q l;
       above = λ q l. ap (λ ys. bit_at ys q) f ∙ put_behind xs m s v h i j k q l;
     }

@@ -1,24 +1,14 @@
-use Rattle.std.proofs.Common.{◌≡◌, ◌+◌, ◌*◌, ◌%◌, ◌^◌, ◌<◌, length, get_or, sym, ap, ◌∙◌, mod-eq_of_lt, arith, get_or-set_other, get_or-set_same, below_more}
-use Rattle.shelf.specs.Bits.{symbol_at}
-use Rattle.shelf.proofs.Packing.{symbol_below}
-use Rattle.shelf.proofs.Tabs.{tab_all}
-use Rattle.shelf.proofs.Wholes.{pair_symbol}
+use Rattle.std.proofs.Common.{◌+◌, ◌*◌, length, ◌∙◌, arith}
+use Rattle.shelf.proofs.Tabs.{tab_all, tab_more}
+use Rattle.shelf.proofs.Wholes.{pair_read}
 use Rattle.shelf.proofs.packed_bytes.read_pairs.Goals as goal
 
 pub loop-j-preserved : goal.loop-j-preserved
 loop-j-preserved c =
-    let xs = c.args.bytes.now in
     let p = c.args.start + c.loop-j.j in
-    let a = get_or xs (2 * p) 0 in
-    let b = get_or xs (2 * p + 1) 0 in
-    let x = a * 256 + b in
-    let h : a < 256 = omega arith in
-    let i : b < 256 = omega arith in
-    let e : x ≡ symbol_at xs 16 p % 2 ^ 16 =
-    ap (λ t. t * 256 + b) (sym (mod-eq_of_lt h)) ∙ ap (λ t. (a % 256) * 256 + t) (sym (mod-eq_of_lt i)) ∙ sym (pair_symbol xs p) ∙ sym (mod-eq_of_lt (symbol_below xs 16 p)) in
-    below_more _ _
-    (λ k l. get_or-set_other c.loop-j.out c.loop-j.j k x 0 (λ q. omega arith) ∙ c.loop-j.invariant k l)
-    (get_or-set_same c.loop-j.out c.loop-j.j x 0 (omega arith) ∙ e)
+    let high = c.type_inv.bytes (2 * p) in
+    let low = c.type_inv.bytes (2 * p + 1) in
+    tab_more c.loop-j.out c.loop-j.j c.from_be_bytes.result _ c.loop-j.invariant (omega arith) (c.from_be_bytes.ensures ∙ pair_read c.args.bytes.now p (omega arith) (omega arith))
 
 pub returns : goal.returns
 returns c = tab_all c.loop-j.out (length c.args.out.now) _ (omega arith) (λ k h. c.loop-j.invariant k (omega arith))

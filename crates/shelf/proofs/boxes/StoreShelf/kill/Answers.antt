@@ -1,34 +1,23 @@
-use Rattle.std.proofs.Common.{◌≡◌, ◌-◌, false, set, Ok, Result, sym, refl, ◌∙◌, subst}
+use Rattle.std.proofs.Common.{false, set, ap, ◌∙◌}
 use Rattle.std.proofs.lemmas.Result.{err_from_is_err_and}
-use Rattle.refusal.specs.declared.denial.Denial.{Denial}
-use Rattle.shelf.specs.declared.shape.Shape.{Shape}
-use Rattle.shelf.specs.Model.{dead, with_box}
-use Rattle.shelf.specs.Calls.{box_says}
-use Rattle.shelf.specs.Stored.{model_of}
-use Rattle.shelf.proofs.Steps.{box_said, kill_does}
+use Rattle.shelf.specs.Stored.{model_by}
+use Rattle.shelf.proofs.Chains.{denied, accepted}
+use Rattle.shelf.proofs.Shown.{box_is, killed}
 use Rattle.shelf.proofs.boxes.StoreShelf.kill.Goals as goal
 
-pub returns-in_err-in_range : goal.returns-in_err-in_range
-returns-in_err-in_range g c =
+pub returns-in_err-i-clause-value : goal.returns-in_err-i-clause-value
+returns-in_err-i-clause-value g c =
     let s = c.args.self.now in
-    let sh = c.told-shape.result in
-    let sy = g.M.Memory.symbol s.memory in
     let p = err_from_is_err_and c.from_residual.result c.from_residual.ensures.1 in
-    let e = c.in_range.ensures.value ∙ sym (box_said s.live (sy sh.bits) sh c.args.b) in
-    let a = subst (λ (t : Shape). c.in_range.result ≡ box_says (model_of s.live (sy t.bits) t) c.args.b) c.told-shape.ensures.value e in
-    rw (p.1, p.2) (record { value = sym c.in_err-in_range.was ∙ a; after = refl })
+    rw (p.1, p.2) (denied _ _ _ _ c.box_index.ensures.value c.in_err-i.was ∙ box_is s.live (g.M.Memory.symbol s.memory) (g.M.Memory.room s.memory) s.shape c.told.result.shape c.told.ensures.value c.args.b)
 
-pub returns : goal.returns
-returns g c =
+pub returns-clause-value : goal.returns-clause-value
+returns-clause-value g c =
     let s = c.args.self.now in
-    let sh = c.told-shape.result in
-    let sy = g.M.Memory.symbol s.memory in
-    let b = c.args.b in
-    let ok : Result Unit Denial = Ok tt in
-    let k = c.in_ok-in_range.ensures in
-    record {
-      value = subst (λ (t : Shape). ok ≡ box_says (model_of s.live (sy t.bits) t) b) c.told-shape.ensures.value
-          (k.value ∙ sym (box_said s.live (sy sh.bits) sh b));
-      after = subst (λ (t : Shape). model_of (set s.live (b - 1) false) (sy t.bits) t ≡ with_box (model_of s.live (sy t.bits) t) (b - 1) dead) c.told-shape.ensures.value
-          (kill_does s.live (sy sh.bits) sh b k.ok);
-    }
+    (accepted _ _ _ c.in_ok-i.ensures.value).0 ∙ box_is s.live (g.M.Memory.symbol s.memory) (g.M.Memory.room s.memory) s.shape c.told.result.shape c.told.ensures.value c.args.b
+
+pub returns-clause-after : goal.returns-clause-after
+returns-clause-after g c =
+    let s = c.args.self.now in
+    let k = c.in_ok-i.ensures.ok in
+    ap (λ i. model_by (set s.live i false) (g.M.Memory.symbol s.memory) (g.M.Memory.room s.memory) s.shape) k.1 ∙ killed s.live (g.M.Memory.symbol s.memory) (g.M.Memory.room s.memory) s.shape c.told.result.shape c.told.ensures.value c.args.b k.0

@@ -1,42 +1,35 @@
-use Rattle.std.proofs.Common.{◌≡◌, ◌-◌, true, set, Ok, Result, sym, refl, ap, ◌∙◌, subst, arith}
+use Rattle.std.proofs.Common.{true, set, ap, ◌∙◌, arith}
 use Rattle.std.proofs.lemmas.Result.{err_from_is_err_and}
-use Rattle.refusal.specs.declared.denial.Denial.{Denial}
-use Rattle.shelf.specs.declared.shape.Shape.{Shape}
-use Rattle.shelf.specs.Model.{with_box}
-use Rattle.shelf.specs.Calls.{box_says, blank}
-use Rattle.shelf.specs.Stored.{model_of, told}
-use Rattle.shelf.proofs.Steps.{box_said, renew_does, box_in}
+use Rattle.shelf.specs.Stored.{model_by}
+use Rattle.shelf.proofs.Chains.{denied, accepted}
+use Rattle.shelf.proofs.Index.{size_small}
+use Rattle.shelf.proofs.Shown.{box_is, renewed}
+use Rattle.shelf.proofs.Steps.{box_in}
 use Rattle.shelf.proofs.boxes.StoreShelf.renew.Goals as goal
 
-pub returns-in_err-in_range : goal.returns-in_err-in_range
-returns-in_err-in_range g c =
+pub returns-in_err-i-clause-value : goal.returns-in_err-i-clause-value
+returns-in_err-i-clause-value g c =
     let s = c.args.self.now in
-    let sh = c.told-shape.result in
-    let sy = g.M.Memory.symbol s.memory in
     let p = err_from_is_err_and c.from_residual.result c.from_residual.ensures.1 in
-    let e = c.in_range.ensures.value ∙ sym (box_said s.live (sy sh.bits) sh c.args.b) in
-    let a = subst (λ (t : Shape). c.in_range.result ≡ box_says (model_of s.live (sy t.bits) t) c.args.b) c.told-shape.ensures.value e in
-    rw (p.1, p.2) (record { value = sym c.in_err-in_range.was ∙ a; after = refl })
+    rw (p.1, p.2) (denied _ _ _ _ c.box_index.ensures.value c.in_err-i.was ∙ box_is s.live (g.M.Memory.symbol s.memory) (g.M.Memory.room s.memory) s.shape c.told-told.result.shape c.told-told.ensures.value c.args.b)
 
 pub wipe-requires : goal.wipe-requires
 wipe-requires g c =
-    let sh = c.told-shape.result in
-    let q = box_in sh c.args.b c.in_ok-in_range.ensures.ok in
-    (omega arith, omega arith, omega arith, omega arith)
+    let t = c.told-told.result in
+    let q = box_in t.shape c.in_ok-i.i c.in_ok-i.ensures.ok.2 in
+    let l = size_small t in
+    rw (c.symbol_bits.ensures, c.box_size-size.ensures) (omega arith, omega arith)
 
-pub returns : goal.returns
-returns g c =
+pub returns-clause-value : goal.returns-clause-value
+returns-clause-value g c =
     let s = c.args.self.now in
-    let sh = c.told-shape.result in
-    let sy = g.M.Memory.symbol s.memory in
-    let ny = g.M.Memory.symbol c.wipe.new.self in
-    let b = c.args.b in
-    let ok : Result Unit Denial = Ok tt in
-    let k = c.in_ok-in_range.ensures in
-    record {
-      value = subst (λ (t : Shape). ok ≡ box_says (model_of s.live (sy t.bits) t) b) c.told-shape.ensures.value
-          (k.value ∙ sym (box_said s.live (sy sh.bits) sh b));
-      after = ap (λ (t : Shape). model_of (set s.live (b - 1) true) (ny t.bits) t) (ap (told s.shape) (c.wipe.ensures.same s.shape.bits))
-          ∙ subst (λ (t : Shape). model_of (set s.live (b - 1) true) (ny t.bits) t ≡ with_box (model_of s.live (sy t.bits) t) (b - 1) (blank t.rows t.width)) c.told-shape.ensures.value
-          (renew_does s.live (sy sh.bits) sh (ny sh.bits) b k.ok (omega arith) c.wipe.ensures.after);
-    }
+    (accepted _ _ _ c.in_ok-i.ensures.value).0 ∙ box_is s.live (g.M.Memory.symbol s.memory) (g.M.Memory.room s.memory) s.shape c.told-told.result.shape c.told-told.ensures.value c.args.b
+
+pub returns-clause-after : goal.returns-clause-after
+returns-clause-after g c =
+    let s = c.args.self.now in
+    let now = g.M.Memory.symbol c.wipe.new.self in
+    let room = g.M.Memory.room c.wipe.new.self in
+    let k = c.in_ok-i.ensures.ok in
+    let w = rw (c.symbol_bits.ensures, c.box_size-size.ensures, k.1) at c.wipe.ensures.after in
+    ap (λ i. model_by (set s.live i true) now room s.shape) k.1 ∙ renewed s.live (g.M.Memory.symbol s.memory) (g.M.Memory.room s.memory) s.shape c.told-told.result.shape c.told-told.ensures.value now room c.wipe.ensures.same c.args.b k.0 (omega arith) w
