@@ -1,5 +1,5 @@
 // The rule at one symbol position: a row of a block from the matrices, and a segment from a block.
-ghost use Rattle.std.specs.Prelude.{◌<◌, ◌≡◌, ◌≤◌, length, MatchOption, ◌≢◌};
+ghost use Rattle.std.specs.Prelude.{◌<◌, ◌≡◌, ◌^◌, ◌≤◌, length, MatchOption};
 ghost use Rattle.algebra.specs.Cells.{entry, matrix};
 ghost use Rattle.algebra.specs.Poly.{power};
 ghost use Rattle.beehive.specs.Numbers.{alpha, tail, beta};
@@ -30,7 +30,7 @@ fn column<F: Field>(numbers: &Numbers, s: u32, cells: &[F::Elem], cols: usize, j
     sum
 }
 
-// Entry j of b(s) = φ·S + μ·φ·T: none past α.
+// Entry j of b(s) = φ·S + μ·φ·T: none past α, and none at a node past the largest.
 pub fn first_entry<F: Field>(
     numbers: &Numbers,
     s: u32,
@@ -38,12 +38,12 @@ pub fn first_entry<F: Field>(
     times_mu: &[F::Elem],
     j: usize,
 ) -> Option<F::Elem>
-    ensures { MatchOption result (alpha numbers.now ≤ j)
-        (λ v. (j < alpha numbers.now) × (v ≡ F.Field.ops.add (phi_times F.Field.ops numbers.now s (square F.Field.ops numbers.now free.now) j)
+    ensures { MatchOption result ((s < 2 ^ 16) × (j < alpha numbers.now) → ⊥)
+        (λ v. (s < 2 ^ 16) × (j < alpha numbers.now) × (v ≡ F.Field.ops.add (phi_times F.Field.ops numbers.now s (square F.Field.ops numbers.now free.now) j)
         (F.Field.ops.mul (mu F.Field.ops numbers.now s) (phi_times F.Field.ops numbers.now s (square F.Field.ops numbers.now times_mu.now) j)))) }
 {
     let alpha = numbers.alpha();
-    if j >= alpha {
+    if s >= 65536 || j >= alpha {
         return None;
     }
     let low = column::<F>(numbers, s, free, alpha, j);
@@ -51,17 +51,17 @@ pub fn first_entry<F: Field>(
     Some(F::add(low, F::mul(mu_of::<F>(numbers, s), high)))
 }
 
-// Entry q of c(s) = φ·Z: none past t − 1.
+// Entry q of c(s) = φ·Z: none past t − 1, and none at a node past the largest.
 pub fn second_entry<F: Field>(
     numbers: &Numbers,
     s: u32,
     cells: &[F::Elem],
     q: usize,
 ) -> Option<F::Elem>
-    ensures { MatchOption result (tail numbers.now ≤ q)
-        (λ v. (q < tail numbers.now) × (v ≡ phi_times F.Field.ops numbers.now s (narrow F.Field.ops numbers.now cells.now) q)) }
+    ensures { MatchOption result ((s < 2 ^ 16) × (q < tail numbers.now) → ⊥)
+        (λ v. (s < 2 ^ 16) × (q < tail numbers.now) × (v ≡ phi_times F.Field.ops numbers.now s (narrow F.Field.ops numbers.now cells.now) q)) }
 {
-    if q >= numbers.tail() {
+    if s >= 65536 || q >= numbers.tail() {
         return None;
     }
     Some(column::<F>(numbers, s, cells, numbers.tail(), q))
@@ -75,12 +75,12 @@ fn along<F: Field>(numbers: &Numbers, j: u32, part: &[F::Elem]) -> F::Elem
 }
 
 // The segment from node i, which holds the block, about node j: h(j)·c(i) + (μ(i) − μ(j))⁻¹ (φ(j)·b(i)). None where the
-// block is not of β entries.
+// block is not of β entries, and none at a node past the largest.
 pub fn segment_of<F: Field>(numbers: &Numbers, i: u32, j: u32, block: &[F::Elem]) -> Option<F::Elem>
-    ensures { MatchOption result (length block.now ≢ beta numbers.now)
-        (λ v. (length block.now ≡ beta numbers.now) × (v ≡ segment F.Field.ops numbers.now (λ s k. entry F.Field.ops block.now k) i j)) }
+    ensures { MatchOption result ((i < 2 ^ 16) × (j < 2 ^ 16) × (length block.now ≡ beta numbers.now) → ⊥)
+        (λ v. (i < 2 ^ 16) × (j < 2 ^ 16) × (length block.now ≡ beta numbers.now) × (v ≡ segment F.Field.ops numbers.now (λ s k. entry F.Field.ops block.now k) i j)) }
 {
-    if block.len() != numbers.beta() {
+    if i >= 65536 || j >= 65536 || block.len() != numbers.beta() {
         return None;
     }
     let (first, second) = block.split_at(numbers.alpha());

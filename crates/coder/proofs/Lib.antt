@@ -1,4 +1,5 @@
 pub mod Cells
+pub mod Elements
 pub mod Formulas
 pub mod Indices
 pub mod Front

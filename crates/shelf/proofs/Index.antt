@@ -42,5 +42,8 @@ within_high i n e = leb-true i n (and_parts (ltb 0 i) (leb i n) e).1
 pub within_index : (i n : ℕ) → within i n ≡ true → i - 1 < n
 within_index i n e = let a = within_low i n e in let b = within_high i n e in omega arith
 
+pub numbers_small : (boxes rows width : ℕ) → boxes ≤ 16 → rows ≤ 16 → width ≤ 1024 → (boxes * rows) * width ≤ max_size
+numbers_small boxes rows width a b c = mul-le (boxes * rows) width 256 1024 (mul-le boxes rows 16 16 a b) c
+
 pub size_small : (t : Told) → size t.shape ≤ max_size
-size_small t = let s = t.shape in let l = t.limits in mul-le (s.boxes * s.rows) s.width 256 1024 (mul-le s.boxes s.rows 16 16 l.0 l.1.1) l.2.1
+size_small t = let s = t.shape in let l = t.limits in numbers_small s.boxes s.rows s.width l.0 l.1.1 l.2.1

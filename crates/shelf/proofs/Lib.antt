@@ -1,6 +1,7 @@
 -- The lemmas of the crate.
 pub mod Chains
 pub mod Codes
+pub mod Eights
 pub mod Gathers
 pub mod Holds
 pub mod Index

@@ -45,7 +45,9 @@ fn window(bytes: &[u8], i: usize) -> u32
     ensures value { result ≡ gather (bit_at bytes.now) (8 * i) 24 }
     ensures bound { result < 2 ^ 24 }
 {
-    u32::from_be_bytes([0, byte(bytes, i), byte(bytes, i + 1), byte(bytes, i + 2)])
+    // By arithmetic: of `u32::from_be_bytes`, one of whose bytes is zero, the compiler makes more instructions a symbol.
+    (u32::from(byte(bytes, i)) * 256 + u32::from(byte(bytes, i + 1))) * 256
+        + u32::from(byte(bytes, i + 2))
 }
 
 fn set_window(bytes: &mut [u8], i: usize, w: u32)

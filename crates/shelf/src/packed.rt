@@ -4,7 +4,7 @@ ghost use Rattle.shelf.specs.Bits.{symbol_at};
 
 use crate::memory::Memory;
 use crate::packed_bytes::{read_bytes, read_pairs, write_bytes, write_pairs};
-use crate::packed_rows::{read_bits, wipe_bits, write_bits};
+use crate::packed_rows::{read_bits, wipe_row, write_bits};
 use crate::shape::SymbolBits;
 
 #[derive(Drop)]
@@ -39,6 +39,6 @@ impl Memory for Packed<'_> {
     }
 
     fn wipe(&mut self, m: SymbolBits, start: usize, n: usize) {
-        wipe_bits(self.bytes, m, start, n);
+        wipe_row(self.bytes, m, start, n);
     }
 }

@@ -1,6 +1,6 @@
 // Rows of symbols of any number of bits, read and written in bytes one symbol after another: the bits of a symbol begin
 // anywhere in a byte, so that a place is reckoned from its number.
-ghost use Rattle.std.specs.Prelude.{◌≡◌, ℕ, ◌+◌, ◌*◌, ◌/◌, ◌%◌, ◌^◌, ◌≤◌, true, length, slice_index};
+ghost use Rattle.std.specs.Prelude.{◌≡◌, ℕ, ◌+◌, ◌-◌, ◌*◌, ◌/◌, ◌%◌, ◌^◌, ◌≤◌, true, length, slice_index};
 ghost use Rattle.shelf.specs.Bits.{symbol_at};
 ghost use Rattle.shelf.specs.Calls.{all_below};
 ghost use Rattle.shelf.specs.Stored.{tab, max_size, InRoom, Written};
@@ -32,5 +32,33 @@ pub(crate) fn wipe_bits(bytes: &mut [u8], m: SymbolBits, start: usize, n: usize)
 {
     for j in 0..n {
         set_symbol(bytes, m, m.bit(start + j), 0);
+    }
+}
+
+// Makes the symbols from number 8 · first to before number 8 · last zero: eight symbols fill m whole bytes.
+fn wipe_eights(bytes: &mut [u8], m: SymbolBits, first: usize, last: usize)
+    requires order { first ≤ last }
+    requires room { last * m.count ≤ length bytes.old }
+    requires small { last ≤ max_size }
+    ensures { Written (symbol_at bytes.old m.count) (symbol_at bytes.new m.count) (8 * first) (8 * (last - first)) (λ j. 0) }
+{
+    bytes[m.bit(first)..m.bit(last)].fill(0);
+}
+
+// Makes n symbols zero: as whole bytes what lies between two numbers that are multiples of eight, and the few before and
+// behind symbol after symbol.
+pub(crate) fn wipe_row(bytes: &mut [u8], m: SymbolBits, start: usize, n: usize)
+    requires { InRoom start n ((8 * length bytes.old) / m.count) }
+    ensures { Written (symbol_at bytes.old m.count) (symbol_at bytes.new m.count) start n (λ j. 0) }
+{
+    let end = start + n;
+    let first = start.div_ceil(8);
+    let last = end / 8;
+    if first < last {
+        wipe_bits(bytes, m, start, 8 * first - start);
+        wipe_eights(bytes, m, first, last);
+        wipe_bits(bytes, m, 8 * last, end - 8 * last);
+    } else {
+        wipe_bits(bytes, m, start, n);
     }
 }

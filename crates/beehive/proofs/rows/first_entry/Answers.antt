@@ -10,6 +10,7 @@ returns g c =
     let N = c.args.numbers.now in
     let s = c.args.s in
     let j = c.args.j in (
+      omega arith,
       omega (arith, c.alpha-alpha.ensures),
       c.add.ensures ∙ ap₂ F.add
           (c.column-low.ensures ∙ ap (λ (cols : ℕ). dot F (alpha N) (powers F N s) (λ i. matrix F c.args.free.now cols i j)) c.alpha-alpha.ensures)

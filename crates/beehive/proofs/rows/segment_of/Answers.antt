@@ -17,6 +17,8 @@ returns g c =
     let second : c.along-2.result ≡ dot F (tail N) (powers F N j) (λ q. entry F block (alpha N + q)) =
     c.along-2.ensures ∙ along_part F N j (tail N) c.split_at.result.1.now (λ q. entry F block (alpha N + q)) (omega (arith, cut.back_len))
     (λ k l. cut.by_index.2 k F.zero ∙ ap (λ (a : ℕ). entry F block (a + k)) c.alpha.ensures) in (
+      omega arith,
+      omega arith,
       omega (arith, c.beta.ensures),
       c.add.ensures ∙
           ap₂ F.add second (c.mul-head.ensures ∙ ap₂ F.mul (c.inverted.ensures ∙ ap F.inv (c.add-apart.ensures ∙ ap₂ F.add c.mu_of.ensures c.mu_of-2.ensures)) first),

@@ -1,4 +1,4 @@
-use Rattle.std.proofs.Common.{◌≡◌, ℕ, zero, suc, ◌+◌, ◌-◌, ◌*◌, ◌/◌, ◌%◌, ◌<◌, Ok, Err, Result, List, [], ◌∷◌, cond, ltb, refl, ap, ◌∙◌, ⊎_elim, arith}
+use Rattle.std.proofs.Common.{◌≡◌, ℕ, zero, suc, ◌+◌, ◌-◌, ◌*◌, ◌/◌, ◌%◌, ◌<◌, Ok, Err, Result, List, cond, ltb, refl, ap, ◌∙◌, ⊎_elim, arith}
 use Rattle.std.proofs.lemmas.Bool.{lt-ltb, le-ltb, cases_lt, cond-true, cond-false}
 use Rattle.refusal.specs.declared.denial.Denial.{Denial}
 use Rattle.field.specs.Laws.{Ops}
@@ -10,13 +10,11 @@ use Rattle.coder.specs.Points.{listed, chosen_point}
 use Rattle.coder.specs.Plans.{Made}
 use Rattle.coder.proofs.Indices.{row_of}
 use Rattle.blocks.specs.Weights.{from_boxes, points_used}
+use Rattle.blocks.specs.declared.plans.TheConstants.{FIRST}
 use Rattle.blocks.proofs.Grids.{row_same}
 use Rattle.blocks.proofs.plans.load_plan.Goals as goal
 
-abbrev first : List ℕ
-first = 1 ∷ 2 ∷ 3 ∷ 4 ∷ 5 ∷ 6 ∷ 7 ∷ 8 ∷ []
-
-first_is : (m : ℕ) → m < 8 → listed first m ≡ suc m
+first_is : (m : ℕ) → m < 8 → listed FIRST m ≡ suc m
 first_is zero l = refl
 first_is (suc zero) l = refl
 first_is (suc (suc zero)) l = refl
@@ -33,7 +31,7 @@ used N r i l = ⊎_elim
     (λ h. let e = cond-false (ltb r (alpha N)) (alpha N + 1) (alpha N) (le-ltb r (alpha N) h) in omega arith)
     (cases_lt r (alpha N))
 
-points_same : {E : Type 0} (F : Ops E) (N : Numbers) (r : ℕ) → Same (points_used N r) (chosen_point F N (listed first)) (chosen_point F N suc)
+points_same : {E : Type 0} (F : Ops E) (N : Numbers) (r : ℕ) → Same (points_used N r) (chosen_point F N (listed FIRST)) (chosen_point F N suc)
 points_same F N r i l = let u = used N r i l in ap (λ m. point F N (cond (ltb i (virtuals N)) (suc i) (node N m))) (first_is (i - virtuals N) (omega arith))
 
 made_same : {E : Type 0} (F : Ops E) (fits : Type 0) (n : ℕ) (w v : ℕ → E) (old new : List E) (r : Result Unit Denial) → Same n w v → Made F fits n w old new r → Made F fits n v old new r
@@ -46,6 +44,6 @@ returns g c =
     let N = c.args.numbers.now in
     let r = c.args.row in
     let to = c.args.to in
-    made_same F _ (N.k * beta N) (from_boxes F N (listed first) to r) (from_boxes F N suc to r) c.args.plan.now c.read_plan.new.plan c.read_plan.result
-    (λ e l. row_same F N (chosen_point F N (listed first)) (chosen_point F N suc) (point F N (node N to)) r (e / beta N) (e % beta N) (points_same F N r) (row_of e N.k (beta N) (omega arith) l))
+    made_same F _ (N.k * beta N) (from_boxes F N (listed FIRST) to r) (from_boxes F N suc to r) c.args.plan.now c.read_plan.new.plan c.read_plan.result
+    (λ e l. row_same F N (chosen_point F N (listed FIRST)) (chosen_point F N suc) (point F N (node N to)) r (e / beta N) (e % beta N) (points_same F N r) (row_of e N.k (beta N) (omega arith) l))
     c.read_plan.ensures
