@@ -26,7 +26,7 @@ pub(crate) fn write_bits(bytes: &mut [u8], m: SymbolBits, start: usize, cells: &
     }
 }
 
-pub(crate) fn wipe_bits(bytes: &mut [u8], m: SymbolBits, start: usize, n: usize)
+fn wipe_bits(bytes: &mut [u8], m: SymbolBits, start: usize, n: usize)
     requires { InRoom start n ((8 * length bytes.old) / m.count) }
     ensures { Written (symbol_at bytes.old m.count) (symbol_at bytes.new m.count) start n (λ j. 0) }
 {
@@ -35,7 +35,8 @@ pub(crate) fn wipe_bits(bytes: &mut [u8], m: SymbolBits, start: usize, n: usize)
     }
 }
 
-// Makes the symbols from number 8 · first to before number 8 · last zero: eight symbols fill m whole bytes.
+// Makes the symbols from number 8 · first to before number 8 · last zero. Eight symbols of m bits fill m whole bytes, so that the
+// byte at which symbol number 8 · g begins is the bit at which symbol number g does.
 fn wipe_eights(bytes: &mut [u8], m: SymbolBits, first: usize, last: usize)
     requires order { first ≤ last }
     requires room { last * m.count ≤ length bytes.old }
